@@ -1,29 +1,25 @@
 -- Which status a verdict has, and who is to blame for one.
-use Rattle.uxn_cli.proofs.Common.{◌≡◌, ℕ, true, false, ◌≤◌, ◌⊎◌, nat_le, ◌==◌, if◌then◌else◌, refl, ap, sym, ◌∙◌, inl, inr, arith, le-leb, Some}
+use Rattle.uxn_cli.proofs.Common.{◌≡◌, ℕ, true, false, ◌≤◌, ◌⊎◌, nat_le, ◌==◌, if◌then◌else◌, refl, ap, sym, ◌∙◌, inl, inr, arith, le-leb, Some, Option, Gives, inquiry_of}
 use Rattle.uxn_cli.proofs.Common.{Result, Ok, Err, Counts, Rose, Ledger, AllCounted, Nodes, Stop, TreeFault, SinkFault, NoMemory, Task, Refusal}
-use Rattle.uxn_cli.proofs.Common.{IsViewOf, Validates, stop_blame, status_blame, tree_verdict, EndsWith, outcome_of, Reason, Illegal, Pathless}
+use Rattle.uxn_cli.proofs.Common.{stop_blame, status_blame, tree_verdict, EndsWith, outcome_of, Reason, Illegal, Pathless}
 use Rattle.uxn_cli.proofs.Common.{NoInput, FaultySource, FaultyScript, FaultyCommands, Unfit, FaultySetup, Status, Exits, Refuses, EndsBy, number}
-use Rattle.uxn_cli.proofs.Common.{reason_of, early_status, IsRefusedFor, InputsView, view_of, Work, validated}
+use Rattle.uxn_cli.proofs.Common.{reason_of, early_status, IsRefusedFor, Work}
 use Rattle.uxn_task_files.specs.Statuses.{Blocked}
 
 -- ---- the verdict on what stands in a tree of known contents
 
-same_view : (nodes : Nodes) (task : Task) (view : InputsView) → IsViewOf (Some nodes) task view → view ≡ view_of nodes task
-same_view nodes task view observed = rw (← observed.file, ← observed.symbols, ← observed.script, ← observed.commands, ← observed.part, ← observed.parent, ← observed.named, ← observed.blocked) refl
-
-pub known_verdict : (nodes : Nodes) (requested : Result Task Refusal) (found : Result Work Refusal) → Validates requested (Some nodes) found → found ≡ tree_verdict nodes requested
-known_verdict nodes (Err refusal) found j = sym j.validated
-known_verdict nodes (Ok task) found j = sym j.validated ∙ ap (validated task) (same_view nodes task j.view j.observed)
+pub known_verdict : (nodes : Nodes) (requested : Result Task Refusal) (found : Result Work Refusal) → Gives (Some nodes) (inquiry_of requested) found → found ≡ tree_verdict nodes requested
+known_verdict nodes requested found given = sym given
 
 -- ---- statuses and their numbers
 
 -- the status of a verdict
-abbrev pub status_in : Result Work Refusal → Status
-status_in (Ok work) = Exits (outcome_of (Ok work)).status
-status_in (Err refusal) = Refuses (reason_of refusal)
+abbrev pub status_in : Option Nodes → Result Work Refusal → Status
+status_in files (Ok work) = Exits (outcome_of files (Ok work)).status
+status_in files (Err refusal) = Refuses (reason_of refusal)
 
-pub has_status : (found : Result Work Refusal) → (outcome_of found).status ≡ number (status_in found)
-has_status found = grind arith
+pub has_status : (files : Option Nodes) (found : Result Work Refusal) → (outcome_of files found).status ≡ number (status_in files found)
+has_status files found = grind arith
 
 -- exit codes are at most 127
 abbrev pub IsStatus : Status → Type 0
@@ -31,9 +27,9 @@ IsStatus (Exits code) = code ≤ 127
 IsStatus (Refuses reason) = Unit {0}
 IsStatus (EndsBy stop) = Unit {0}
 
-pub is_status : (found : Result Work Refusal) → IsStatus (status_in found)
-is_status (Ok work) = (let small : (outcome_of (Ok work)).status ≤ 127 = grind arith in small)
-is_status (Err refusal) = tt
+pub is_status : (files : Option Nodes) (found : Result Work Refusal) → IsStatus (status_in files found)
+is_status files (Ok work) = (let small : (outcome_of files (Ok work)).status ≤ 127 = grind arith in small)
+is_status files (Err refusal) = tt
 
 -- the status that a number represents
 abbrev large_said : ℕ → Status
@@ -61,20 +57,21 @@ IsUsual (Exits code) = Unit {0}
 IsUsual (Refuses reason) = Unit {0}
 IsUsual (EndsBy stop) = ⊥
 
-pub is_usual : (found : Result Work Refusal) → IsUsual (status_in found)
-is_usual found = grind arith
+pub is_usual : (files : Option Nodes) (found : Result Work Refusal) → IsUsual (status_in files found)
+is_usual files found = grind arith
 
 -- the verdicts that have a status
-pub only_refused : (reason : Reason) (found : Result Work Refusal) → status_in found ≡ Refuses reason → IsRefusedFor reason found
-only_refused reason (Ok work) is = absurd cc
-only_refused reason (Err refusal) is = (refusal, refl, cc)
+module _ (files : Option Nodes) where
+  pub only_refused : (reason : Reason) (found : Result Work Refusal) → status_in files found ≡ Refuses reason → IsRefusedFor reason found
+  only_refused reason (Ok work) is = absurd cc
+  only_refused reason (Err refusal) is = (refusal, refl, cc)
 
-pub is_refused : (reason : Reason) (found : Result Work Refusal) → IsRefusedFor reason found → status_in found ≡ Refuses reason
-is_refused reason found refused = ap status_in refused.1 ∙ ap Refuses refused.2
+  pub is_refused : (reason : Reason) (found : Result Work Refusal) → IsRefusedFor reason found → status_in files found ≡ Refuses reason
+  is_refused reason found refused = ap (status_in files) refused.1 ∙ ap Refuses refused.2
 
-pub only_exit : (code : ℕ) (found : Result Work Refusal) → status_in found ≡ Exits code → EndsWith code found
-only_exit code (Ok work) is = (work, refl, cc)
-only_exit code (Err refusal) is = absurd cc
+  pub only_exit : (code : ℕ) (found : Result Work Refusal) → status_in files found ≡ Exits code → EndsWith files code found
+  only_exit code (Ok work) is = (work, refl, cc)
+  only_exit code (Err refusal) is = absurd cc
 
 -- ---- who is to blame
 

@@ -1,19 +1,20 @@
 -- The clauses of a call, from its outcome.
 use Rattle.uxn_cli.proofs.Common.{◌≡◌, ℕ, ◌⊎◌, List, refl, ap, sym, ◌∙◌, inl, inr, subst, arith, Option, Some, Result, Ok, Err, changed_by-err}
-use Rattle.uxn_cli.proofs.Common.{Nobody, Ledger, Nodes, World, extended, Stop, TreeFault, SinkFault, NoMemory, Task, Refusal, HasUnknownContents, Validates}
+use Rattle.uxn_cli.proofs.Common.{Nobody, Ledger, Nodes, World, extended, Stop, TreeFault, SinkFault, NoMemory, Task, Refusal, HasUnknownContents, Gives, inquiry_of, IsOfInputs, reason_of}
 use Rattle.uxn_cli.proofs.Common.{HasOutcome, CallHasEnded, EndsEarly, HasPrefix, HasCut, CallIsCut, MayStop, AnswersCall, as_step, status_blame, Call, call_request}
 use Rattle.uxn_cli.proofs.Common.{step_status, IsExactly, tree_verdict, EndsWith, PutsLine, HasStatuses, EndsEarlyByFaults, ComesOut, DoesWork, refusal_text}
 use Rattle.uxn_cli.proofs.Common.{refusal_line, outcome_of, request, Reason, Status, Exits, Refuses, EndsBy, number, early_status, IsEarly, IsRefusing}
-use Rattle.uxn_cli.proofs.Common.{IsRefusedFor, IsOfWords, InputsView, Work, verdict, Gives, IfSome_then, HostState, observed_outside}
+use Rattle.uxn_cli.proofs.Common.{IsRefusedFor, IsOfWords, Work, IfSome_then, HostState, observed_outside}
 use Rattle.std.proofs.lemmas.Bool.Decides.{nat_tests}
 use Rattle.uxn_cli.proofs.CauseLemmas.{known_verdict, status_in, has_status, IsStatus, is_status, one_status, IsUsual, is_usual, only_refused}
 use Rattle.uxn_cli.proofs.CauseLemmas.{only_exit, blame_early, tree-rose, sink-rose, is_refused}
 use Rattle.uxn_cli.proofs.GuaranteedLemmas.{where_known, always}
-use Rattle.uxn_cli.proofs.GivesLemmas.{Writes, validated-gives}
+use Rattle.uxn_inquiry.specs.GivesLaws.{answer-gives}
+use Rattle.uxn_cli.proofs.GivesLemmas.{Writes, found-gives}
 
 -- of what was to be done over a tree of known contents a prefix was done
 pub record IsCutBy (found : Result Work Refusal) (before now : World) (stop : Stop) : Type 0 where
-  pub may : MayStop found stop
+  pub may : MayStop before.files found stop
   pub prefix : HasPrefix found before now
 
 module _ (requested : Result Task Refusal) (before now : World) where
@@ -27,22 +28,22 @@ module _ (requested : Result Task Refusal) (before now : World) where
     is_known found (inl is) = is
     is_known found (inr unknown) = absurd (subst (λ t. HasUnknownContents t found) contents unknown)
 
-    is_verdict : (found : Result Work Refusal) → Validates requested before.files found → found ≡ tree_verdict nodes requested
-    is_verdict found validates = known_verdict nodes requested found (subst (λ t. Validates requested t found) contents validates)
+    is_verdict : (found : Result Work Refusal) → Gives before.files (inquiry_of requested) found → found ≡ tree_verdict nodes requested
+    is_verdict found given = known_verdict nodes requested found (subst (λ t. Gives t (inquiry_of requested) found) contents given)
 
     -- what stands after an early end
     pub early_known : (stop : Stop) → CallIsCut requested before now stop → (now ≡ before) ⊎ IsCutBy (tree_verdict nodes requested) before now stop
     early_known stop cut = elim (cut_either stop cut) [
       | inl same ↦ inl same
-      | inr cut ↦ inr (subst (λ found. IsCutBy found before now stop) (is_verdict cut.found cut.validates)
+      | inr cut ↦ inr (subst (λ found. IsCutBy found before now stop) (is_verdict cut.found cut.given)
           (record { may = is_known cut.found cut.may; prefix = is_known cut.found cut.prefix }))
     ]
 
     -- the answer is that of the outcome, or the call ended early
-    pub ends_known : (answer : ℕ) → AnswersCall requested before now answer → HasOutcome (outcome_of (tree_verdict nodes requested)) before now answer ⊎ EndsEarly requested before now answer
+    pub ends_known : (answer : ℕ) → AnswersCall requested before now answer → HasOutcome (outcome_of before.files (tree_verdict nodes requested)) before now answer ⊎ EndsEarly requested before now answer
     ends_known answer (inr early) = inr early
     ends_known answer (inl ended) = elim ended.has [
-      | inl has ↦ inl (subst (λ found. HasOutcome (outcome_of found) before now answer) (is_verdict ended.found ended.validates) has)
+      | inl has ↦ inl (subst (λ found. HasOutcome (outcome_of before.files found) before now answer) (is_verdict ended.found ended.given) has)
       | inr unknown ↦ absurd (subst (λ t. HasUnknownContents t ended.found) contents unknown.0)
     ]
 
@@ -56,8 +57,9 @@ refusal_by answer reason status is a b = one_status status (Refuses reason) is t
 not_usual : (answer : ℕ) (status : Status) → IsStatus status → IsUsual status → answer ≡ number status → IsEarly answer → ⊥
 not_usual answer status is usual same early = subst IsUsual (one_status status (EndsBy early.0) is tt (sym same ∙ early.1)) usual
 
-pub outcome_usual : (found : Result Work Refusal) (before now : World) (answer : ℕ) → HasOutcome (outcome_of found) before now answer → IsEarly answer → ⊥
-outcome_usual found before now answer has early = not_usual answer (status_in found) (is_status found) (is_usual found) (has.status ∙ has_status found) early
+pub outcome_usual : (found : Result Work Refusal) (before now : World) (answer : ℕ) → HasOutcome (outcome_of before.files found) before now answer → IsEarly answer → ⊥
+outcome_usual found before now answer has early =
+    not_usual answer (status_in before.files found) (is_status before.files found) (is_usual before.files found) (has.status ∙ has_status before.files found) early
 
 ended_usual : (requested : Result Task Refusal) (before now : World) (answer : ℕ) → CallHasEnded requested before now answer → IsEarly answer → ⊥
 ended_usual requested before now answer ended early = elim ended.has [
@@ -66,11 +68,11 @@ ended_usual requested before now answer ended early = elim ended.has [
 ]
 
 -- a status comes exactly where a verdict has it, and after an early end no such status does
-exactly_by : (found : Result Work Refusal) (answer : ℕ) (status : Status) (P : Type 0) → IsStatus status → answer ≡ (outcome_of found).status → (status_in found ≡ status → P) → (P → status_in found ≡ status)
-    → IsExactly answer status P
-exactly_by found answer status P is same only whenever = record {
-  only = λ e. only (one_status (status_in found) status (is_status found) is (sym (has_status found) ∙ sym same ∙ e));
-  whenever = λ p. inl (same ∙ has_status found ∙ ap number (whenever p));
+exactly_by : (files : Option Nodes) (found : Result Work Refusal) (answer : ℕ) (status : Status) (P : Type 0) → IsStatus status → answer ≡ (outcome_of files found).status
+    → (status_in files found ≡ status → P) → (P → status_in files found ≡ status) → IsExactly answer status P
+exactly_by files found answer status P is same only whenever = record {
+  only = λ e. only (one_status (status_in files found) status (is_status files found) is (sym (has_status files found) ∙ sym same ∙ e));
+  whenever = λ p. inl (same ∙ has_status files found ∙ ap number (whenever p));
 }
 
 exactly_early : (answer : ℕ) (status : Status) (P : Type 0) → IsStatus status → IsUsual status → IsEarly answer → IsExactly answer status P
@@ -79,10 +81,18 @@ exactly_early answer status P is usual early = record {
   whenever = λ p. inr early;
 }
 
--- words that are refused for a reason of theirs are so whatever was observed
-requested_refused : (reason : Reason) (requested : Result Task Refusal) (view : InputsView) → IsOfWords reason → IsRefusedFor reason (verdict requested view) → IsRefusedFor reason requested
-requested_refused reason (Err refusal) view of refused = (let same : refusal ≡ refused.0 = cc in (refused.0, ap Err same, refused.2))
-requested_refused reason (Ok task) view of refused = absurd (subst (Gives (Writes task.command task)) refused.1 (validated-gives task view) (subst IsOfWords (sym refused.2) of))
+-- words that are refused for a reason of theirs are so whatever the tree
+module _ (reason : Reason) (tree : Option Nodes) (found : Result Work Refusal) where
+  refused_by : (requested : Result Task Refusal) → Gives tree (inquiry_of requested) found → IsRefusedFor reason requested → IsRefusedFor reason found
+  refused_by (Err refusal) given refused = (refusal, answer-gives tree (Err refusal) found given, (let same : refusal ≡ refused.0 = cc in ap reason_of same ∙ refused.2))
+  refused_by (Ok task) given refused = absurd cc
+
+  requested_refused : (requested : Result Task Refusal) → Gives tree (inquiry_of requested) found → IsOfWords reason → IsRefusedFor reason found → IsRefusedFor reason requested
+  requested_refused (Err refusal) given of refused =
+      let same : Err refused.0 ≡ Err refusal = sym refused.1 ∙ answer-gives tree (Err refusal) found given in
+      let one : refused.0 ≡ refusal = cc in (refusal, refl, ap reason_of (sym one) ∙ refused.2)
+  requested_refused (Ok task) given of refused =
+      absurd (subst (IsOfInputs (Writes task.command task)) refused.1 (found-gives tree task found given) (subst IsOfWords (sym refused.2) of))
 
 -- what is refused is told
 refused_known : (tree : Option Nodes) (refusal : Refusal) → HasUnknownContents tree (Err refusal) → ⊥
@@ -99,14 +109,12 @@ module _ (requested : Result Task Refusal) (before now : World) (answer : ℕ) (
       go : AnswersCall requested before now answer → IsExactly answer (Refuses reason) (IsRefusedFor reason requested)
       go (inr early) = exactly_early answer (Refuses reason) (IsRefusedFor reason requested) tt tt (early_is early)
       go (inl ended) =
-          let same = ended.validates.validated in
-          let refused : IsRefusedFor reason requested → IsRefusedFor reason ended.found =
-          λ refused. subst (IsRefusedFor reason) same (refused.0, ap (λ a. verdict a ended.validates.view) refused.1, refused.2) in
+          let refused = refused_by reason before.files ended.found requested ended.given in
           elim ended.has [
             | inl has ↦
-                exactly_by ended.found answer (Refuses reason) (IsRefusedFor reason requested) tt has.status
-                (λ e. requested_refused reason requested ended.validates.view of (subst (IsRefusedFor reason) (sym same) (only_refused reason ended.found e)))
-                (λ p. is_refused reason ended.found (refused p))
+                exactly_by before.files ended.found answer (Refuses reason) (IsRefusedFor reason requested) tt has.status
+                (λ e. requested_refused reason before.files ended.found requested ended.given of (only_refused before.files reason ended.found e))
+                (λ p. is_refused before.files reason ended.found (refused p))
             | inr unknown ↦ record {
               only = λ e. (let no = refusal_by answer reason (Exits answer) unknown.1 refl e in absurd cc);
               whenever = λ p. absurd (refused_known before.files (refused p).0 (subst (HasUnknownContents before.files) (refused p).1 unknown.0));
@@ -114,14 +122,14 @@ module _ (requested : Result Task Refusal) (before now : World) (answer : ℕ) (
           ]
 
   -- a refusal puts its one line on the error output, and nothing else
-  pub refusal_of : (refusing : IsRefusing answer) → (refusal : Refusal) × HasOutcome (outcome_of (Err refusal)) before now answer
+  pub refusal_of : (refusing : IsRefusing answer) → (refusal : Refusal) × HasOutcome (outcome_of before.files (Err refusal)) before now answer
   refusal_of refusing = go answers
     where
-      by : (found : Result Work Refusal) → HasOutcome (outcome_of found) before now answer → (refusal : Refusal) × HasOutcome (outcome_of (Err refusal)) before now answer
-      by (Ok work) has = (let no = refusal_by answer refusing.0 (status_in (Ok work)) (is_status (Ok work)) has.status refusing.1 in absurd cc)
+      by : (found : Result Work Refusal) → HasOutcome (outcome_of before.files found) before now answer → (refusal : Refusal) × HasOutcome (outcome_of before.files (Err refusal)) before now answer
+      by (Ok work) has = (let no = refusal_by answer refusing.0 (status_in before.files (Ok work)) (is_status before.files (Ok work)) has.status refusing.1 in absurd cc)
       by (Err refusal) has = (refusal, has)
 
-      go : AnswersCall requested before now answer → (refusal : Refusal) × HasOutcome (outcome_of (Err refusal)) before now answer
+      go : AnswersCall requested before now answer → (refusal : Refusal) × HasOutcome (outcome_of before.files (Err refusal)) before now answer
       go (inr early) = absurd (not_usual answer (Refuses refusing.0) tt tt refusing.1 (early_is early))
       go (inl ended) = elim ended.has [
         | inl has ↦ by ended.found has
@@ -136,18 +144,18 @@ module _ (requested : Result Task Refusal) (before now : World) (answer : ℕ) (
 
   module _ (nodes : Nodes) (contents : before.files ≡ Some nodes) where
     -- what stands in the tree decides
-    exactly_known : (status : Status) → IsStatus status → IsUsual status → (P : Type 0) → (status_in (tree_verdict nodes requested) ≡ status → P) → (P → status_in (tree_verdict nodes requested) ≡ status)
-        → IsExactly answer status P
+    exactly_known : (status : Status) → IsStatus status → IsUsual status → (P : Type 0) → (status_in before.files (tree_verdict nodes requested) ≡ status → P)
+        → (P → status_in before.files (tree_verdict nodes requested) ≡ status) → IsExactly answer status P
     exactly_known status is usual P only whenever = elim (ends_known requested before now nodes contents answer answers) [
-      | inl has ↦ exactly_by (tree_verdict nodes requested) answer status P is has.status only whenever
+      | inl has ↦ exactly_by before.files (tree_verdict nodes requested) answer status P is has.status only whenever
       | inr early ↦ exactly_early answer status P is usual (early_is early)
     ]
 
     -- what is accepted ends with its exit code, unless a count rose or memory ran out
     completes : (TreeRose OutRose ErrRose : Type 0) → (answer ≡ 136 → TreeRose) → (answer ≡ 137 → OutRose ⊎ ErrRose)
-        → (work : Work) → tree_verdict nodes requested ≡ Ok work → (TreeRose → ⊥) → (OutRose → ⊥) → (ErrRose → ⊥) → (answer ≡ (outcome_of (Ok work)).status) ⊎ (answer ≡ 138)
+        → (work : Work) → tree_verdict nodes requested ≡ Ok work → (TreeRose → ⊥) → (OutRose → ⊥) → (ErrRose → ⊥) → (answer ≡ (outcome_of before.files (Ok work)).status) ⊎ (answer ≡ 138)
     completes TreeRose OutRose ErrRose by_tree by_sink work accepted t o e = elim (ends_known requested before now nodes contents answer answers) [
-      | inl has ↦ inl (has.status ∙ ap (λ v. (outcome_of v).status) accepted)
+      | inl has ↦ inl (has.status ∙ ap (λ v. (outcome_of before.files v).status) accepted)
       | inr early ↦ inr (go early.stop early.status)
     ]
       where
@@ -157,13 +165,13 @@ module _ (requested : Result Task Refusal) (before now : World) (answer : ℕ) (
         go NoMemory is = is
 
     -- when out of memory all is as it was, or the verdict is of a run in which it may run out
-    wanting : answer ≡ 138 → (now ≡ before) ⊎ MayStop (tree_verdict nodes requested) NoMemory
+    wanting : answer ≡ 138 → (now ≡ before) ⊎ MayStop before.files (tree_verdict nodes requested) NoMemory
     wanting is = elim (ends_known requested before now nodes contents answer answers) [
       | inl has ↦ absurd (outcome_usual (tree_verdict nodes requested) before now answer has (NoMemory, is))
       | inr early ↦ go early.stop (sym early.status ∙ is) early.stands
     ]
       where
-        go : (stop : Stop) → early_status stop ≡ 138 → CallIsCut requested before now stop → (now ≡ before) ⊎ MayStop (tree_verdict nodes requested) NoMemory
+        go : (stop : Stop) → early_status stop ≡ 138 → CallIsCut requested before now stop → (now ≡ before) ⊎ MayStop before.files (tree_verdict nodes requested) NoMemory
         go TreeFault e cut = absurd (omega (arith, e))
         go SinkFault e cut = absurd (omega (arith, e))
         go NoMemory e cut = elim (early_known requested before now nodes contents NoMemory cut) [ inl same ↦ inl same | inr prefix ↦ inr prefix.may ]
@@ -177,10 +185,10 @@ has_statuses c comes =
       requested = exactly_requested (call_request c) before now c.status answers;
       refused = where_known before.files _ (λ nodes contents reason.
           exactly_known (call_request c) before now c.status answers nodes contents (Refuses reason) tt tt (IsRefusedFor reason (tree_verdict nodes (call_request c)))
-          (only_refused reason (tree_verdict nodes (call_request c))) (is_refused reason (tree_verdict nodes (call_request c))));
+          (only_refused before.files reason (tree_verdict nodes (call_request c))) (is_refused before.files reason (tree_verdict nodes (call_request c))));
       accepted = where_known before.files _ (λ nodes contents code small.
-          exactly_known (call_request c) before now c.status answers nodes contents (Exits code) small tt (EndsWith code (tree_verdict nodes (call_request c)))
-          (only_exit code (tree_verdict nodes (call_request c))) (λ ends. ap status_in ends.1 ∙ ap Exits ends.2));
+          exactly_known (call_request c) before now c.status answers nodes contents (Exits code) small tt (EndsWith before.files code (tree_verdict nodes (call_request c)))
+          (only_exit before.files code (tree_verdict nodes (call_request c))) (λ ends. ap (status_in before.files) ends.1 ∙ ap Exits ends.2));
     }
 
 pub ends_early : (c : Call) → ComesOut c → EndsEarlyByFaults c

@@ -56,49 +56,51 @@ pub use Rattle.uxn_arguments.specs.Tasks.{role_path}
 pub use Rattle.uxn_arguments.specs.declared.task.Task.{Task}
 pub use Rattle.uxn_arguments.specs.declared.words.Command.{Command}
 pub use Rattle.uxn_arguments.specs.declared.words.Command.TheVariants.{Play, Debug, Assemble, Disassemble, Generate, Line}
-pub use Rattle.uxn_task_files.proofs.GivesLemmas.{Gives, gives-then, read-then, IsRead, source-validated, script-validated, given-to-run, disassembly-read}
-pub use Rattle.uxn_task_files.proofs.GivesLemmas.{machines-given, files-given}
 pub use Rattle.uxn_task_files.proofs.PlaceLemmas.{clash_parts, none_last, none_each, count-parts, clash_from, one_if, none_among, count-first}
 pub use Rattle.uxn_task_files.proofs.PlaceLemmas.{meets_parts, meets_one}
-pub use Rattle.uxn_task_files.proofs.ReadingLemmas.{inputs_or, reads-ended, reads-on, reads-none, reads-through, no_view}
-pub use Rattle.uxn_task_files.specs.Accepted.{source_files, run_given, Loaded, accepted_program, accepted_symbols, accepted_script, accepted_commands, debug_labels, GivenInputs}
-pub use Rattle.uxn_task_files.specs.Accepted.{machines_given}
 pub use Rattle.uxn_task_files.specs.Blame.{stop_blame, status_blame, as_step, halted_by_tree, result_blame, OnRefused}
-pub use Rattle.uxn_task_files.specs.FollowsDefinition.{FollowsDefinition}
 pub use Rattle.uxn_task_files.specs.Held.{model_of_program, model_of_machines, model_of_inputs}
 pub use Rattle.uxn_task_files.specs.Lines.{refusal_line, refusal_text}
-pub use Rattle.uxn_task_files.specs.Made.{first_unmade, MakesOutputs, WritesOutputs, Made, HalfMade, AreFree}
+pub use Rattle.uxn_task_files.specs.Made.{MakesOutputs, WritesOutputs, Made, HalfDone, AreFree}
 pub use Rattle.uxn_task_files.specs.Puts.{Puts}
 pub use Rattle.uxn_task_files.specs.Request.{apart, validated_clash, then_requests, refused}
 unfoldable pub use Rattle.uxn_task_files.specs.Request.{request}
 pub use Rattle.uxn_task_files.specs.Statuses.{Reason, Status, Exits, Refuses, EndsBy, number, early_status, IsRefusedFor, IsEarly, status_of, Illegal}
 pub use Rattle.uxn_task_files.specs.Statuses.{Pathless, NoInput, FaultySource, FaultyScript, FaultyCommands, Unfit, FaultySetup, reason_of, IsRefusing}
 pub use Rattle.uxn_task_files.specs.Statuses.{IsOfWords}
-pub use Rattle.uxn_task_files.specs.Views.{InputsView, view_of, blocked_observed, ReadsInputs, inputs_observed, RunsMachine}
 pub use Rattle.uxn_task_files.specs.World.{Text, world, requested_output, text_paths}
 pub use Rattle.uxn_task_files.specs.Writing.{creating_all, filling, filling_all}
 unfoldable pub use Rattle.uxn_task_files.specs.Writing.{writing}
 pub use Rattle.uxn_task_files.specs.declared.refusal.Halt.{Halt}
 pub use Rattle.uxn_task_files.specs.declared.refusal.Halt.TheVariants.{Refused, Stopped}
 pub use Rattle.uxn_task_files.specs.declared.refusal.Refusal.{Refusal}
-pub use Rattle.uxn_cli.specs.Answer.{IsViewOf, Validates, HasUnknownContents, HasOutcome, HasCut, MayStop, AnswersCall, Performs, CallHasEnded, EndsEarly, HasPrefix, CallIsCut}
+pub use Rattle.uxn_cli.specs.Answer.{HasUnknownContents, HasOutcome, HasCut, MayStop, AnswersCall, Performs, CallHasEnded, EndsEarly, HasPrefix, CallIsCut}
 pub use Rattle.uxn_cli.specs.Answer.{ListsFolder}
 pub use Rattle.uxn_cli.specs.Call.{Call, call_request, step_status}
 pub use Rattle.uxn_cli.specs.Causes.{tree_verdict, EndsWith, IsExactly, PutsLine, IsAside, KeepsOthers}
 pub use Rattle.uxn_cli.specs.Clauses.{HasStatuses, EndsEarlyByFaults, ComesOut, IsOutputOf, HoldsFilePrefix, IsPrefixOf, HoldsTruncated, IsCutShort}
 pub use Rattle.uxn_cli.specs.Clauses.{LeavesTheRest, GivesTheSame}
-pub use Rattle.uxn_cli.specs.Console.{console_script, is_of_console}
-pub use Rattle.uxn_cli.specs.RunJob.{trace_of, RunJob, job_outputs, first_state, log_texts, RootView, Debugging, log_paths, first_devices, job_root_view, state_shown, no_root_view}
+pub use Rattle.uxn_cli.specs.Console.{console_script}
+pub use Rattle.uxn_line.specs.Streams.{is_of_console}
+pub use Rattle.uxn_cli.specs.RunJob.{trace_of, RunJob, job_outputs, first_state, log_texts, RootView, Debugging, log_paths, first_devices, root_view_in, state_shown, no_root_view}
 pub use Rattle.uxn_cli.specs.RunJob.{report_of, bus_clock, common_lines, further_lines, state_exit}
 unfoldable pub use Rattle.uxn_cli.specs.RunJob.{reference_trace, log_text, report_text}
 pub use Rattle.uxn_cli.specs.Joined.{LineGoesOn, job_of_joined, LineHasDone, joined_plan}
 pub use Rattle.uxn_cli.specs.Outcome.{line_exit, Outcome, outcome_of, reporting, line_bytes, printing}
 unfoldable pub use Rattle.uxn_cli.specs.Outcome.{running}
 pub use Rattle.uxn_cli.specs.Outside.{DoesWork, HostState, host_state, observed_outside}
-pub use Rattle.uxn_cli.specs.Prepared.{work_paths, IsPlanned, ReadsPlan, SeesWork, IsRootViewOf, AreNew, IsReady, IsReadyRun, prepared_debugging, Unready}
-pub use Rattle.uxn_cli.specs.Refused.{RunsNone, AtMostOne, CountsRefusals, PassesNoneOver}
-pub use Rattle.uxn_cli.specs.Room.{TreeSuffices, SinksSuffice, TakesFor}
-pub use Rattle.uxn_cli.specs.Verdict.{Work, Run, Write, Print, RunLine, validated, accepted_summary, observed_root_view, Plan, work_of, unblocked, validated_outputs, accepted_line}
-pub use Rattle.uxn_cli.specs.Verdict.{run_plan, accepted_run, write_plan, text_plan, run_job, debugging, planned, verdict, line_plan}
+pub use Rattle.uxn_cli.specs.Prepared.{IsPlanned, AreNew, IsReadyRun, prepared_debugging, prepared_plan, model_of_work}
+pub use Rattle.uxn_cli.specs.Refused.{HasNoRoot, AtMostOne, IsTold, CountsRefusals, PassesNoneOver}
+pub use Rattle.uxn_cli.specs.Room.{TreeSuffices, SinksSuffice}
+pub use Rattle.uxn_cli.specs.Verdict.{Work, Run, Write, Print, RunLine, accepted_summary, Plan, plan_of, accepted_line, inquiry_of}
+unfoldable pub use Rattle.uxn_cli.specs.Verdict.{run_plan_of, line_plan_of, work_of}
+pub use Rattle.uxn_cli.specs.Verdict.{run_plan, write_plan, text_plan, run_job, debugging, planned, line_plan}
+pub use Rattle.uxn_inquiry.specs.Inquiry.{Inquiry, Answer, and_then, answer_in}
+pub use Rattle.uxn_inquiry.specs.Inquires.{Inquires, Says}
+pub use Rattle.uxn_task_files.proofs.GivesLemmas.{IsOfInputs, AsksFor, IsAsked, asks-then, asked-then, run-asked, disassembly-asked, machines-asked, files-asked}
+pub use Rattle.uxn_task_files.proofs.GivesLemmas.{outputs-asked}
+pub use Rattle.uxn_task_files.specs.Accepted.{Loaded, debug_labels, GivenInputs, free_outputs, Machines}
+unfoldable pub use Rattle.uxn_task_files.specs.Accepted.{run_of, files_of, disassembly_of, machines_of}
+pub use Rattle.uxn_inquiry.specs.Gives.{Gives}
 pub use Rattle.uxn_cli.specs.Workload.{empty_world, lone_trace, console_text, HasRunAlone, workload_trace, run_summary, trace_summary}
 unfoldable pub use Rattle.uxn_cli.specs.Workload.{workload_text}

@@ -1,20 +1,46 @@
 -- What the work of a command is: which files it writes; and that no refusal of it is one that the words alone decide.
-use Rattle.uxn_cli.proofs.Common.{◌≡◌, ℕ, Bool, List, refl, subst, rules, arith, Option, Some, None, Ok, ScriptView, Nodes, Command, Play, Debug}
-use Rattle.uxn_cli.proofs.Common.{Assemble, Disassemble, Generate, Line, Task, command_outputs, outputs_of, command_root, source_files, first_unmade, InputsView}
-use Rattle.uxn_cli.proofs.Common.{gives-then, read-then, IsRead, source-validated, script-validated, given-to-run, disassembly-read, machines-given}
-use Rattle.uxn_cli.proofs.Common.{files-given, console_script, work_paths, Work, Run, Write, Print, RunLine, accepted_summary, observed_root_view, Plan, work_of}
-use Rattle.uxn_cli.proofs.Common.{unblocked, validated_outputs, validated}
-pub use Rattle.uxn_task_files.proofs.GivesLemmas.{Gives}
+use Rattle.uxn_cli.proofs.Common.{◌≡◌, ℕ, List, [], refl, arith, Option, Some, None, Result, Ok, Err, Nodes, Command, Play, Debug, Assemble, Disassemble, Generate}
+use Rattle.uxn_cli.proofs.Common.{Line, Task, command_outputs, command_root, outputs_of, job_outputs, text_paths, Refusal, IsOfInputs, AsksFor}
+use Rattle.uxn_cli.proofs.Common.{asks-then, asked-then, run-asked, disassembly-asked, machines-asked, files-asked, outputs-asked, tree_verdict, then_requests, Gives}
+use Rattle.uxn_cli.proofs.Common.{Work, Run, Write, Print, RunLine, Plan, plan_of, accepted_summary, console_script, free_outputs}
+unfoldable use Rattle.uxn_cli.proofs.Common.{run_plan_of, line_plan_of, work_of, run_of, files_of, disassembly_of, machines_of}
+use Rattle.uxn_cli.proofs.Common.{debug_labels, ScriptView, rules}
+use Rattle.play_script.specs.declared.script.ScriptKind.{ScriptKind}
+use Rattle.tal_assembly.specs.Sources.{Sourced}
+use Rattle.tal_assembly.specs.declared.fault.SourceFault.{SourceFault}
+use Rattle.uxn_inquiry.specs.Inquiry.{result_as}
+use Rattle.uxn_task_files.specs.Accepted.{validated_script}
+use Rattle.uxn_task_files.specs.declared.refusal.Refusal.TheVariants.{Faulty}
+use Rattle.uxn_inquiry.specs.GivesLaws.{always-gives}
 use Rattle.uxn_cli.proofs.JobLemmas.{play-job, debug-job}
 
-summary-read : (count : ℕ) → IsRead (accepted_summary count)
-summary-read count = search (rules, read-then, source-validated, script-validated)
+-- ---- a step of its own
+
+then-given : {A B : Type 0} (Q : B → Type 0) (said : Result A Refusal) (next : A → Result B Refusal) → IsOfInputs (λ value. Unit {0}) said
+    → ((value : A) → IsOfInputs Q (next value)) → IsOfInputs Q (then_requests said next)
+then-given Q (Ok value) next given more = more value
+then-given Q (Err refusal) next given more = given
+
+source-given : (said : Result Sourced SourceFault) → IsOfInputs (λ value. Unit {0}) (result_as Faulty said)
+source-given said = grind arith
+
+script-given : (said : Result ScriptView (ℕ × ScriptKind)) → IsOfInputs (λ value. Unit {0}) (validated_script said)
+script-given said = grind arith
+
+summary-given : (count : ℕ) → IsOfInputs (λ value. Unit {0}) (accepted_summary count)
+summary-given count = search (rules, then-given, source-given, script-given)
 
 -- ---- what is written
 
--- the root of a run
+-- the files that a work writes, and the root of a run
+abbrev pub work_paths : Work → List (List ℕ)
+work_paths (Run job) = job_outputs job
+work_paths (Write texts) = text_paths texts
+work_paths (Print text) = []
+work_paths (RunLine job) = []
+
 abbrev pub root_in : Work → Option (List ℕ)
-root_in (Run job) = job.root_view.root
+root_in (Run job) = job.root
 root_in (Write texts) = None
 root_in (Print text) = None
 root_in (RunLine job) = None
@@ -23,31 +49,31 @@ pub record Writes (command : Command) (task : Task) (work : Work) : Type 0 where
   pub paths : work_paths work ≡ command_outputs command task
   pub root : root_in work ≡ command_root command task
 
-pub root_view-root : (root : Option (List ℕ)) (part : Nodes) (parent : Bool) → (observed_root_view root part parent).root ≡ root
-root_view-root root part parent = grind arith
-
 -- what is planned writes the outputs of the task
 abbrev pub PlanWrites : Command → Task → Plan → Type 0
 PlanWrites command task accepted = Writes command task accepted.work
 
-pub work-gives : (command : Command) (task : Task) (view : InputsView) → Gives (PlanWrites command task) (work_of command task view)
-work-gives Play task view = search (rules, read-then, given-to-run, root_view-root, play-job)
-work-gives Debug task view = search (rules, read-then, given-to-run, root_view-root, debug-job)
-work-gives Assemble task view = gives-then _ (PlanWrites Assemble task) (source_files task view) _ (files-given task view) (λ files paths. record { paths = paths; root = refl })
-work-gives Disassemble task view = search (rules, read-then, disassembly-read)
-work-gives Generate task view = search (rules, read-then, summary-read)
-work-gives Line task view =
-    let console : (script : ScriptView) → IsRead (console_script script) = λ script. grind arith in search (rules, read-then, machines-given, console)
+pub plan-asked : (command : Command) (task : Task) → AsksFor (PlanWrites command task) (plan_of command task)
+unfolding run_plan_of line_plan_of
+plan-asked Play task = asked-then (PlanWrites Play task) (run_of Play task) _ (run-asked Play task) (λ given. record { paths = play-job task given.program.rom given.script; root = refl })
+plan-asked Debug task = asked-then (PlanWrites Debug task) (run_of Debug task) _ (run-asked Debug task) (λ given. record { paths = debug-job task given.program.rom given.script given.commands (debug_labels given.labels given.program); root = refl })
+plan-asked Assemble task = asks-then _ (PlanWrites Assemble task) (files_of task) _ (files-asked task) (λ files paths. record { paths = paths; root = refl })
+plan-asked Disassemble task = asked-then (PlanWrites Disassemble task) (disassembly_of task) _ (disassembly-asked task) (λ text. record { paths = refl; root = refl })
+plan-asked Generate task =
+    then-given (PlanWrites Generate task) (accepted_summary task.count) _ (summary-given task.count) (λ text. record { paths = refl; root = refl })
+plan-asked Line task =
+    asked-then (PlanWrites Line task) (machines_of task) _ (machines-asked task)
+    (λ machines. then-given (PlanWrites Line task) (console_script machines.script) _ (grind arith) (λ script. record { paths = refl; root = refl }))
 
-made-gives : (P : Work → Type 0) (first : Option (List ℕ)) (work : Work) → P work → Gives P (unblocked first work)
-made-gives P None work given = given
-made-gives P (Some path) work given = λ no. no
+-- so does what is accepted
+pub work-asked : (task : Task) → AsksFor (Writes task.command task) (work_of task)
+unfolding work_of
+work-asked task =
+    asks-then (PlanWrites task.command task) (Writes task.command task) (plan_of task.command task) _ (plan-asked task.command task)
+    (λ (plan : Plan) writes. asked-then (Writes task.command task) (free_outputs plan.included (outputs_of task)) _ (outputs-asked plan.included (outputs_of task)) (λ free. writes))
 
--- so does what is validated
-pub validated-gives : (task : Task) (view : InputsView) → Gives (Writes task.command task) (validated task view)
-validated-gives task view =
-    gives-then (PlanWrites task.command task) (Writes task.command task) (work_of task.command task view) (validated_outputs task view.blocked) (work-gives task.command task view)
-    (λ accepted writes. made-gives (Writes task.command task) (first_unmade view.blocked accepted.included (outputs_of task)) accepted.work writes)
+pub found-gives : (contents : Option Nodes) (task : Task) (found : Result Work Refusal) → Gives contents (work_of task) found → IsOfInputs (Writes task.command task) found
+found-gives contents task found given = always-gives _ contents (work_of task) found (work-asked task) given
 
-pub validated-writes : (task : Task) (view : InputsView) (work : Work) → validated task view ≡ Ok work → Writes task.command task work
-validated-writes task view work e = subst (Gives (Writes task.command task)) e (validated-gives task view)
+pub verdict-writes : (nodes : Nodes) (task : Task) (work : Work) → tree_verdict nodes (Ok task) ≡ Ok work → Writes task.command task work
+verdict-writes nodes task work is = found-gives (Some nodes) task (Ok work) is

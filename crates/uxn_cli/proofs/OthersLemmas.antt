@@ -3,15 +3,15 @@ use Rattle.uxn_cli.proofs.Common.{◌≡◌, ℕ, false, List, [], ◌∷◌, �
 use Rattle.uxn_cli.proofs.Common.{option_to_list, list_any, bytes_eq, or_parts, list_any-append, suits, Nodes, ToOut, ToErr, World, ScriptView}
 use Rattle.uxn_cli.proofs.Common.{IsOutside, Spares, Each, IsSeparateFrom, each-append, each-map, contents_at, spared, spared-prefix, kept-node, new_core}
 use Rattle.uxn_cli.proofs.Common.{Core, Outputs, Trace, Task, Refusal, AnswersCall, Call, call_request, tree_verdict, IsAside, KeepsOthers, LeavesTheRest}
-use Rattle.uxn_cli.proofs.Common.{Debugging, RunJob, RootView, log_paths, job_outputs, trace_of, reference_trace, first_devices, first_state, log_texts, requested_output, work_paths}
-use Rattle.uxn_cli.proofs.Common.{outcome_of, reporting, running, line_bytes, creating_all, filling_all, Work, Run, Write, Print, RunLine, validated}
-use Rattle.uxn_cli.proofs.Common.{view_of, Gives, ComesOut}
+use Rattle.uxn_cli.proofs.Common.{Debugging, RunJob, RootView, log_paths, job_outputs, trace_of, reference_trace, first_devices, first_state, log_texts, requested_output}
+use Rattle.uxn_cli.proofs.Common.{outcome_of, reporting, running, line_bytes, creating_all, filling_all, Work, Run, Write, Print, RunLine}
+use Rattle.uxn_cli.proofs.Common.{IsOfInputs, root_view_in, ComesOut}
 use Rattle.vector_loop.specs.Touching.{IsOther, run-leaves}
 use Rattle.uxn_cli.specs.RunJob.{wanted_outputs}
 use Rattle.uxn_cli.proofs.ChangeLemmas.{creating-spares, filling-spares, writing-spares}
 use Rattle.uxn_cli.proofs.GuaranteedLemmas.{where_known}
 use Rattle.uxn_cli.proofs.ClauseLemmas.{early_known, ends_known, line_put, puts_line}
-use Rattle.uxn_cli.proofs.GivesLemmas.{Writes, root_in, validated-gives}
+use Rattle.uxn_cli.proofs.GivesLemmas.{Writes, root_in, work_paths, found-gives}
 
 -- a path that is none of two lists is none of either
 pub any-parts : (path : List ℕ) (first last : List (List ℕ)) → list_any (bytes_eq path) (first ++ last) ≡ false → (list_any (bytes_eq path) first ≡ false) × (list_any (bytes_eq path) last ≡ false)
@@ -36,45 +36,47 @@ trace-spares path budget outputs script root_view core frames samples outside =
     let apart : IsSeparateFrom path (first_devices script root_view) = record { outside = outside; first = refl; second = refl } in
     run-leaves path budget outputs script (first_state core script root_view) frames samples apart
 
-job-spares : (path : List ℕ) (job : RunJob) → list_any (bytes_eq path) (job_outputs job) ≡ false → IsOutside job.root_view.root path → Each (Spares path) (running job)
+job-spares : (path : List ℕ) (files : Option Nodes) (job : RunJob) → list_any (bytes_eq path) (job_outputs job) ≡ false → IsOutside job.root path → Each (Spares path) (running files job)
 unfolding running
-job-spares path job none outside =
+job-spares path files job none outside =
     let frames = option_to_list job.frames in
     let samples = option_to_list job.samples in
     let log = any-parts path (log_paths job.debug) (frames ++ samples ++ option_to_list job.report) none in
     let report = any-parts path (frames ++ samples) (option_to_list job.report) log.1 in
     let shown = any-parts path frames samples report.0 in
     each-append (Spares path) (creating_all (job_outputs job)) _ (creating-spares path (job_outputs job) none)
-    (each-append (Spares path) (reporting job.report job.script.version (trace_of job)) _
-    (each-append (Spares path) (trace_of job).changes _
-    (trace-spares path job.budget (wanted_outputs job.frames job.samples) job.script job.root_view (new_core job.rom) (other-output path job.frames shown.0) (other-output path job.samples shown.1) outside)
+    (each-append (Spares path) (reporting job.report job.script.version (trace_of files job)) _
+    (each-append (Spares path) (trace_of files job).changes _
+    (trace-spares path job.budget (wanted_outputs job.frames job.samples) job.script (root_view_in files job.root) (new_core job.rom) (other-output path job.frames shown.0) (other-output path job.samples shown.1) outside)
     (text-spares path job.report _ report.1))
-    (log-spares path job.debug (trace_of job) log.0))
+    (log-spares path job.debug (trace_of files job) log.0))
 
-work-spares : (path : List ℕ) (work : Work) → list_any (bytes_eq path) (work_paths work) ≡ false → IsOutside (root_in work) path → Each (Spares path) (outcome_of (Ok work)).changes
-work-spares path (Run job) none outside = job-spares path job none outside
-work-spares path (Write texts) none outside = writing-spares path texts none
-work-spares path (Print text) none outside = each-map (Spares path) (λ byte. ToOut byte) text (λ byte. tt)
-work-spares path (RunLine job) none outside = each-map (Spares path) (λ byte. ToOut byte) (line_bytes job) (λ byte. tt)
+work-spares : (path : List ℕ) (files : Option Nodes) (work : Work) → list_any (bytes_eq path) (work_paths work) ≡ false → IsOutside (root_in work) path
+    → Each (Spares path) (outcome_of files (Ok work)).changes
+work-spares path files (Run job) none outside = job-spares path files job none outside
+work-spares path files (Write texts) none outside = writing-spares path texts none
+work-spares path files (Print text) none outside = each-map (Spares path) (λ byte. ToOut byte) text (λ byte. tt)
+work-spares path files (RunLine job) none outside = each-map (Spares path) (λ byte. ToOut byte) (line_bytes job) (λ byte. tt)
 
 -- what is to be done over a tree leaves a path alone that is no output and lies outside the root
-found-spares : (requested : Result Task Refusal) (nodes : Nodes) (path : List ℕ) → IfOk requested (λ task. IsAside task path) → Each (Spares path) (outcome_of (tree_verdict nodes requested)).changes
-found-spares (Err refusal) nodes path aside = each-map (Spares path) (λ byte. ToErr byte) _ (λ byte. tt)
-found-spares (Ok task) nodes path aside = go (validated task (view_of nodes task)) (validated-gives task (view_of nodes task))
+found-spares : (requested : Result Task Refusal) (files : Option Nodes) (nodes : Nodes) (path : List ℕ) → IfOk requested (λ task. IsAside task path)
+    → Each (Spares path) (outcome_of files (tree_verdict nodes requested)).changes
+found-spares (Err refusal) files nodes path aside = each-map (Spares path) (λ byte. ToErr byte) _ (λ byte. tt)
+found-spares (Ok task) files nodes path aside = go (tree_verdict nodes (Ok task)) (found-gives (Some nodes) task (tree_verdict nodes (Ok task)) refl)
   where
-    go : (found : Result Work Refusal) → Gives (Writes task.command task) found → Each (Spares path) (outcome_of found).changes
+    go : (found : Result Work Refusal) → IsOfInputs (Writes task.command task) found → Each (Spares path) (outcome_of files found).changes
     go (Err refusal) writes = each-map (Spares path) (λ byte. ToErr byte) _ (λ byte. tt)
-    go (Ok work) writes = work-spares path work (ap (list_any (bytes_eq path)) writes.paths ∙ aside.output) (ap (λ root. suits root (Some path)) writes.root ∙ aside.outside)
+    go (Ok work) writes = work-spares path files work (ap (list_any (bytes_eq path)) writes.paths ∙ aside.output) (ap (λ root. suits root (Some path)) writes.root ∙ aside.outside)
 
 keeps_others : (requested : Result Task Refusal) (before now : World) (answer : ℕ) → AnswersCall requested before now answer → KeepsOthers requested before.files now.files
 keeps_others requested before now answer answers path aside =
     where_known before.files _ (λ nodes contents.
-    let spares = found-spares requested nodes path aside in
+    let spares = found-spares requested before.files nodes path aside in
     let kept : contents_at path now.files ≡ contents_at path before.files = elim (ends_known requested before now nodes contents answer answers) [
-      | inl has ↦ ap (λ w. contents_at path w.files) has.world ∙ spared path before (outcome_of (tree_verdict nodes requested)).changes spares
+      | inl has ↦ ap (λ w. contents_at path w.files) has.world ∙ spared path before (outcome_of before.files (tree_verdict nodes requested)).changes spares
       | inr early ↦ elim (early_known requested before now nodes contents early.stop early.stands) [
         | inl same ↦ ap (λ w. contents_at path w.files) same
-        | inr cut ↦ spared-prefix path before now (outcome_of (tree_verdict nodes requested)).changes spares cut.prefix.cut
+        | inr cut ↦ spared-prefix path before now (outcome_of before.files (tree_verdict nodes requested)).changes spares cut.prefix.cut
       ]
     ] in
     kept-node path (Some nodes) now.files (kept ∙ ap (contents_at path) contents))

@@ -1,40 +1,52 @@
--- What was read of the inputs of a task, as its plan.
-use Rattle.uxn_cli.proofs.Common.{◌≡◌, ℕ, List, refl, ap, sym, subst, Option, Some, None, Result, Ok, Err, IfSome, Vec, Nodes, TreeState, Task}
-use Rattle.uxn_cli.proofs.Common.{Command, Generate, Refusal, Halt, Refused, Stopped, FollowsDefinition, then_requests, InputsView, ReadsInputs, inputs_observed, inputs_or}
-use Rattle.uxn_cli.proofs.Common.{reads-none, reads-ended, reads-on, IsPlanned, ReadsPlan, SeesWork, Work, Plan, planned, text_plan, accepted_summary}
-use Rattle.uxn_cli.proofs.Common.{work_of, Gives}
-use Rattle.uxn_cli.proofs.GivesLemmas.{PlanWrites, work-gives}
+-- The plan of a task, and its outputs, as the answer of its inquiry.
+use Rattle.uxn_cli.proofs.Common.{◌≡◌, refl, sym, Option, Result, Ok, Err, Nodes, Task, outputs_of, command_root, Refusal, Gives, AreFree, IsPlanned, Plan}
+use Rattle.uxn_cli.proofs.Common.{free_outputs, plan_of, Says, Inquires, then_requests, ap, subst, Command, TreeState}
+unfoldable use Rattle.uxn_cli.proofs.Common.{work_of}
+use Rattle.uxn_inquiry.specs.declared.halt.Halt.{Halt}
+use Rattle.uxn_inquiry.specs.declared.halt.Halt.TheVariants.{Refused, TreeFault, NoMemory}
+use Rattle.uxn_inquiry.specs.Inquiry.{unless_refused}
+use Rattle.uxn_inquiry.specs.GivesLaws.{always-gives, gives-answer, gives-bind}
+use Rattle.uxn_cli.proofs.GivesLemmas.{PlanWrites, plan-asked, work_paths, root_in}
 
 -- the files of work that is planned are the outputs of the task
-pub is-planned : (tree : Option Nodes) (task : Task) (work : Work) (included : List (List ℕ)) → SeesWork tree task (Ok (planned work included))
-    → IsPlanned tree task work included
-is-planned tree task work included sees = record { outputs = sym writes.paths; sees = sees }
-  where
-    writes : PlanWrites task.command task (planned work included)
-    writes = subst (Gives (PlanWrites task.command task)) sees.said_so (work-gives task.command task sees.file)
+pub plan-outputs : (contents : Option Nodes) (task : Task) (plan : Plan) → IsPlanned contents task plan → outputs_of task ≡ work_paths plan.work
+plan-outputs contents task plan planned =
+    let writes : PlanWrites task.command task plan = always-gives _ contents (plan_of task.command task) (Ok plan) (plan-asked task.command task) planned in sym writes.paths
 
--- what the inputs say, as the work of the command
-pub reads-work-of : {C : Type 0} (task : Task) (command : Command) → task.command ≡ command → (view : C → Plan) (a b : TreeState) (r : Result C Halt)
-    → ReadsInputs view task (work_of command task) a b r → ReadsPlan view task a b r
-reads-work-of task command is view a b r p = subst (λ c. ReadsInputs view task (work_of c task) a b r) (sym is) p
+-- and its root is that of the task
+pub plan-root : (contents : Option Nodes) (task : Task) (plan : Plan) → IsPlanned contents task plan → root_in plan.work ≡ command_root task.command task
+plan-root contents task plan planned =
+    let writes : PlanWrites task.command task plan = always-gives _ contents (plan_of task.command task) (Ok plan) (plan-asked task.command task) planned in writes.root
 
--- what was read, seen otherwise
-pub reads-mapped : {A B C : Type 0} (task : Task) (said : InputsView → Result A Refusal) (next : A → B) (view : C → A) (a b : TreeState) (r : Result C Halt)
-    → ReadsInputs view task said a b r → ReadsInputs (λ made. next (view made)) task (λ observed. then_requests (said observed) (λ x. Ok (next x))) a b r
-reads-mapped task said next view a b (Ok made) p = reads-on (λ nodes. inputs_observed nodes task) said (λ x. Ok (next x)) view (λ made. next (view made)) a b made (Ok made) p refl
-reads-mapped task said next view a b (Err halt) p = reads-ended (λ nodes. inputs_observed nodes task) said (λ x. Ok (next x)) view (λ made. next (view made)) a b halt p
+module _ (contents : Option Nodes) (task : Task) where
+  -- the inputs are refused
+  pub plan-refused : (refusal : Refusal) → Gives contents (plan_of task.command task) (Err refusal) → Gives contents (work_of task) (Err refusal)
+  unfolding work_of
+  plan-refused refusal given = gives-bind contents (plan_of task.command task) (unless_refused _) (Err refusal) (Err refusal) given (gives-answer contents _ _ refl)
 
--- `gen` looks at nothing
-pub reads-own : (task : Task) → task.command ≡ Generate → (now : TreeState) (r : Result (Vec ℕ) Halt) → FollowsDefinition (λ (text : Vec ℕ). text.items) r (accepted_summary task.count)
-    → ReadsPlan (λ (text : Vec ℕ). text_plan text.items) task now now r
-reads-own task own now r follows =
-    reads-none (λ (text : Vec ℕ). text_plan text.items) (λ nodes. inputs_observed nodes task) (work_of task.command task) now (inputs_or now.contents task) (observed now.contents) r (go r follows)
-  where
-    observed : (t : Option Nodes) → IfSome t (λ nodes. inputs_or t task ≡ inputs_observed nodes task)
-    observed None = tt
-    observed (Some nodes) = refl
+  module _ (plan : Plan) (planned : IsPlanned contents task plan) where
+    -- an output is
+    pub outputs-refused : (refusal : Refusal) → Gives contents (free_outputs plan.included (outputs_of task)) (Err refusal) → Gives contents (work_of task) (Err refusal)
+    unfolding work_of
+    outputs-refused refusal given =
+        gives-bind contents (plan_of task.command task) (unless_refused _) (Ok plan) (Err refusal) planned
+        (gives-bind contents (free_outputs plan.included (outputs_of task)) (unless_refused _) (Err refusal) (Err refusal) given (gives-answer contents _ _ refl))
 
-    go : (r : Result (Vec ℕ) Halt) → FollowsDefinition (λ (text : Vec ℕ). text.items) r (accepted_summary task.count) → FollowsDefinition (λ (text : Vec ℕ). text_plan text.items) r (work_of task.command task (inputs_or now.contents task))
-    go (Ok text) follows = rw own (ap (λ s. then_requests s (λ made. Ok (text_plan made))) follows)
-    go (Err (Refused refusal)) follows = rw own (ap (λ s. then_requests s (λ made. Ok (text_plan made))) follows)
-    go (Err (Stopped stop)) follows = follows
+    -- all is accepted
+    pub plan-accepted : AreFree contents plan.included (outputs_of task) → Gives contents (work_of task) (Ok plan.work)
+    unfolding work_of
+    plan-accepted free =
+        gives-bind contents (plan_of task.command task) (unless_refused _) (Ok plan) (Ok plan.work) planned
+        (gives-bind contents (free_outputs plan.included (outputs_of task)) (unless_refused _) (Ok tt) (Ok plan.work) free (gives-answer contents _ _ refl))
+
+-- a step of its own that stopped, or was refused
+pub says-stopped : {A B C D : Type 0} (view : C → A) (last : D → B) (said : Result A Refusal) (next : A → Result B Refusal) (halt : Halt Refusal) → Says view said (Err halt)
+    → Says last (then_requests said next) (Err halt)
+says-stopped view last said next (Refused refusal) is = ap (λ s. then_requests s next) is
+says-stopped view last said next TreeFault is = absurd is
+says-stopped view last said next NoMemory is = tt
+
+-- what is asked for a command is asked for a task that has it
+pub of-command : {B : Type 0} (view : B → Plan) (task : Task) (c : Command) (a b : TreeState) (r : Result B (Halt Refusal)) → task.command ≡ c → Inquires view (plan_of c task) a b r
+    → Inquires view (plan_of task.command task) a b r
+of-command view task c a b r is asks = subst (λ c. Inquires view (plan_of c task) a b r) (sym is) asks

@@ -7,7 +7,7 @@ use Rattle.uxn_cli.proofs.Common.{changed_by, extended, new_core, IsOutside, Eac
 use Rattle.uxn_cli.proofs.Common.{contents_at, first_clash, HasApartOutputs, Task, Refusal, Call, call_request, tree_verdict, IsOutputOf, HoldsFilePrefix}
 use Rattle.uxn_cli.proofs.Common.{IsPrefixOf, HoldsTruncated, IsCutShort, RunJob, job_outputs, first_state, reference_trace, trace_of, log_texts, report_of, outcome_of}
 use Rattle.uxn_cli.proofs.Common.{reporting, running, creating_all, filling, filling_all, writing, refused, apart, validated_clash, request, then_requests, Work, Run}
-use Rattle.uxn_cli.proofs.Common.{Write, Print, RunLine, validated, view_of, Text, ComesOut}
+use Rattle.uxn_cli.proofs.Common.{Write, Print, RunLine, root_view_in, Text, ComesOut}
 use Rattle.vector_loop.specs.AppendingLaws.{Adds, run-adds}
 use Rattle.uxn_arguments.specs.Words.{task_of}
 use Rattle.uxn_cli.specs.RunJob.{wanted_outputs}
@@ -15,7 +15,7 @@ use Rattle.std.specs.FinMap as fin
 use Rattle.uxn_cli.proofs.GuaranteedLemmas.{where_known}
 use Rattle.uxn_cli.proofs.ClauseLemmas.{early_known, ends_known, outcome_usual}
 use Rattle.uxn_cli.proofs.RootLemmas.{outputs-outside}
-use Rattle.uxn_cli.proofs.GivesLemmas.{validated-writes}
+use Rattle.uxn_cli.proofs.GivesLemmas.{verdict-writes}
 
 module _ (path : List ℕ) where
   filling-adds : (texts : List Text) → Each (Adds path) (filling_all texts)
@@ -99,47 +99,47 @@ module _ (path : List ℕ) where
         go false apart (inr is) = inr (inserted-other nodes path other (File []) apart ∙ is)
 
 -- the run of a job only adds to files outside its root
-trace-adds : (path : List ℕ) (job : RunJob) → IsOutside job.root_view.root path → Each (Adds path) (trace_of job).changes
+trace-adds : (path : List ℕ) (files : Option Nodes) (job : RunJob) → IsOutside job.root path → Each (Adds path) (trace_of files job).changes
 unfolding reference_trace
-trace-adds path job outside =
-    run-adds path job.budget (wanted_outputs job.frames job.samples) job.script (first_state (new_core job.rom) job.script job.root_view)
+trace-adds path files job outside =
+    run-adds path job.budget (wanted_outputs job.frames job.samples) job.script (first_state (new_core job.rom) job.script (root_view_in files job.root))
     (record { outside = outside; first = refl; second = refl })
 
 -- work that writes a file
-work-prefix : (path : List ℕ) (task : Task) (nodes : Nodes) (work : Work) (made rest : List Change) → HasApartOutputs task → validated task (view_of nodes task) ≡ Ok work
-    → IsOutputOf (Ok work) path → (outcome_of (Ok work)).changes ≡ made ++ rest
-    → IsPrefix path (fin.get nodes path) (fin.get (files_by nodes made) path) (fin.get (files_by nodes (outcome_of (Ok work)).changes) path)
+work-prefix : (path : List ℕ) (files : Option Nodes) (task : Task) (nodes : Nodes) (work : Work) (made rest : List Change) → HasApartOutputs task → tree_verdict nodes (Ok task) ≡ Ok work
+    → IsOutputOf (Ok work) path → (outcome_of files (Ok work)).changes ≡ made ++ rest
+    → IsPrefix path (fin.get nodes path) (fin.get (files_by nodes made) path) (fin.get (files_by nodes (outcome_of files (Ok work)).changes) path)
 unfolding running writing
-work-prefix path task nodes (Run job) made rest apart e whole parts =
-    let writes = validated-writes task (view_of nodes task) (Run job) e in
+work-prefix path files task nodes (Run job) made rest apart e whole parts =
+    let writes = verdict-writes nodes task (Run job) e in
     let outside = outputs-outside task path apart (ap (list_any (bytes_eq path)) (sym writes.paths) ∙ whole) in
-    let adds = each-append (Adds path) (reporting job.report job.script.version (trace_of job)) (filling_all (log_texts job.debug (trace_of job)))
-    (each-append (Adds path) (trace_of job).changes (filling_all (report_of job.report job.script.version (trace_of job).last)) (trace-adds path job (rw writes.root outside))
-    (filling-adds path (report_of job.report job.script.version (trace_of job).last))) (filling-adds path (log_texts job.debug (trace_of job))) in
+    let adds = each-append (Adds path) (reporting job.report job.script.version (trace_of files job)) (filling_all (log_texts job.debug (trace_of files job)))
+    (each-append (Adds path) (trace_of files job).changes (filling_all (report_of job.report job.script.version (trace_of files job).last)) (trace-adds path files job (rw writes.root outside))
+    (filling-adds path (report_of job.report job.script.version (trace_of files job).last))) (filling-adds path (log_texts job.debug (trace_of files job))) in
     subst (λ changes. IsPrefix path (fin.get nodes path) (fin.get (files_by nodes made) path) (fin.get (files_by nodes changes) path)) (sym parts)
     (prefix-of path _ rest adds (fin.get nodes path) (job_outputs job) nodes made parts (inl (refl, whole)))
-work-prefix path task nodes (Write texts) made rest apart e whole parts =
+work-prefix path files task nodes (Write texts) made rest apart e whole parts =
     subst (λ changes. IsPrefix path (fin.get nodes path) (fin.get (files_by nodes made) path) (fin.get (files_by nodes changes) path)) (sym parts)
     (prefix-of path (filling_all texts) rest (filling-adds path texts) (fin.get nodes path) (map (λ text. text.path) texts) nodes made parts (inl (refl, whole)))
-work-prefix path task nodes (Print text) made rest apart e whole parts = absurd whole
-work-prefix path task nodes (RunLine job) made rest apart e whole parts = absurd whole
+work-prefix path files task nodes (Print text) made rest apart e whole parts = absurd whole
+work-prefix path files task nodes (RunLine job) made rest apart e whole parts = absurd whole
 
 -- so of what was truncated
 pub holds-prefix : (path : List ℕ) (requested : Result Task Refusal) (before : World) (nodes : Nodes) (made rest : List Change) → IfOk requested HasApartOutputs → before.files ≡ Some nodes
-    → (outcome_of (tree_verdict nodes requested)).changes ≡ made ++ rest → IsOutputOf (tree_verdict nodes requested) path
-    → HoldsFilePrefix (contents_at path before.files) (contents_at path (changed_by before made).files) (contents_at path (changed_by before (outcome_of (tree_verdict nodes requested)).changes).files)
+    → (outcome_of before.files (tree_verdict nodes requested)).changes ≡ made ++ rest → IsOutputOf (tree_verdict nodes requested) path
+    → HoldsFilePrefix (contents_at path before.files) (contents_at path (changed_by before made).files) (contents_at path (changed_by before (outcome_of before.files (tree_verdict nodes requested)).changes).files)
 holds-prefix path (Err refusal) before nodes made rest apart contents parts whole = absurd whole
-holds-prefix path (Ok task) before nodes made rest apart contents parts whole = go (validated task (view_of nodes task)) refl parts whole
+holds-prefix path (Ok task) before nodes made rest apart contents parts whole = go (tree_verdict nodes (Ok task)) refl parts whole
   where
     stands : (changes : List Change) → contents_at path (changed_by before changes).files ≡ Some (fin.get (files_by nodes changes) path)
     stands changes = ap (contents_at path) (files-contents before changes) ∙ rw contents refl
 
-    go : (found : Result Work Refusal) → validated task (view_of nodes task) ≡ found → (outcome_of found).changes ≡ made ++ rest → IsOutputOf found path
-        → HoldsFilePrefix (contents_at path before.files) (contents_at path (changed_by before made).files) (contents_at path (changed_by before (outcome_of found).changes).files)
+    go : (found : Result Work Refusal) → tree_verdict nodes (Ok task) ≡ found → (outcome_of before.files found).changes ≡ made ++ rest → IsOutputOf found path
+        → HoldsFilePrefix (contents_at path before.files) (contents_at path (changed_by before made).files) (contents_at path (changed_by before (outcome_of before.files found).changes).files)
     go (Err refusal) e p w = absurd w
-    go (Ok work) e p w = elim (work-prefix path task nodes work made rest apart e w p) [
+    go (Ok work) e p w = elim (work-prefix path before.files task nodes work made rest apart e w p) [
       | inl same ↦ inl (stands made ∙ ap Some same ∙ sym (ap (contents_at path) contents))
-      | inr prefix ↦ inr (prefix.0, prefix.1, stands made ∙ ap Some prefix.2, stands (outcome_of (Ok work)).changes ∙ ap Some prefix.3)
+      | inr prefix ↦ inr (prefix.0, prefix.1, stands made ∙ ap Some prefix.2, stands (outcome_of before.files (Ok work)).changes ∙ ap Some prefix.3)
     ]
 
 -- ---- what stands after an early end
@@ -171,11 +171,11 @@ requested_apart words = named (refused (task_of words))
 
 -- a prefix of the changes gives a prefix of each
 module _ (requested : Result Task Refusal) (before : World) (nodes : Nodes) (contents : before.files ≡ Some nodes) (apart_too : IfOk requested HasApartOutputs) where
-  stands_cut : (made rest : List Change) → (outcome_of (tree_verdict nodes requested)).changes ≡ made ++ rest → HoldsTruncated (tree_verdict nodes requested) before (changed_by before made)
+  stands_cut : (made rest : List Change) → (outcome_of before.files (tree_verdict nodes requested)).changes ≡ made ++ rest → HoldsTruncated (tree_verdict nodes requested) before (changed_by before made)
   stands_cut made rest parts =
       let first = adds_to before made in
       let last = adds_to (changed_by before made) rest in
-      let whole : changed_by before (outcome_of (tree_verdict nodes requested)).changes ≡ changed_by (changed_by before made) rest = ap (changed_by before) parts ∙ changed_by-append before made rest in
+      let whole : changed_by before (outcome_of before.files (tree_verdict nodes requested)).changes ≡ changed_by (changed_by before made) rest = ap (changed_by before) parts ∙ changed_by-append before made rest in
       record {
         cut = record { made = made; rest = rest; parts = parts; left = refl };
         out = record { kept = first.0; prefix = subst (λ (w : World). IsPrefixOf (changed_by before made).out w.out) (sym whole) last.0 };
@@ -192,7 +192,7 @@ is_cut_short c comes =
       | inl has ↦ absurd (outcome_usual (verdict nodes) before now c.status has is)
       | inr early ↦ elim (early_known (call_request c) before now nodes contents early.stop early.stands) [
         | inl same ↦ subst (HoldsTruncated (verdict nodes) before) (sym same)
-            (stands_cut (call_request c) before nodes contents (requested_apart c.words) [] (outcome_of (verdict nodes)).changes refl)
+            (stands_cut (call_request c) before nodes contents (requested_apart c.words) [] (outcome_of before.files (verdict nodes)).changes refl)
         | inr cut ↦ subst (HoldsTruncated (verdict nodes) before) (sym cut.prefix.cut.left)
             (stands_cut (call_request c) before nodes contents (requested_apart c.words) cut.prefix.cut.made cut.prefix.cut.rest cut.prefix.cut.parts)
       ]

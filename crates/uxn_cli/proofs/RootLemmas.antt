@@ -1,7 +1,7 @@
 -- Outputs that do not clash lie outside the root, and the root is not beneath them.
 use Rattle.uxn_cli.proofs.Common.{◌≡◌, ℕ, true, false, true≢false, List, [], ◌∷◌, ◌++◌, refl, ap, sym, ◌∙◌, arith, Option, Some, None, IfSome}
 use Rattle.uxn_cli.proofs.Common.{option_to_list, find, list_any, bytes_eq, or_parts, false_from_ne_true, is_in, below, parent_is_folder, below-same}
-use Rattle.uxn_cli.proofs.Common.{suits, Nodes, File, is_folder, is_folder_at, Creates, changed_files, files_by, inserted-other, job_root_view, creating_all}
+use Rattle.uxn_cli.proofs.Common.{suits, Nodes, File, is_folder, is_folder_at, Creates, changed_files, files_by, inserted-other, root_view_in, creating_all}
 use Rattle.uxn_cli.proofs.Common.{Task, command_inputs, outputs_of, command_root, meets, clashes, HasApartOutputs, one_if, none_among, count-first, meets_parts}
 use Rattle.uxn_cli.proofs.Common.{meets_one, clash_parts}
 use Rattle.uxn_io_traits.specs.PathText.{parent_of}
@@ -60,6 +60,6 @@ parent-made root paths nodes apart = go (parent_of root) refl
         ap is_folder (spared-node parent nodes paths (λ among. true≢false (sym (parent_under root parent is) ∙ (meets_parts parent root (apart parent among)).2)))
 
 pub root_view-made : (root : Option (List ℕ)) (paths : List (List ℕ)) (nodes : Nodes) → IfSome root (λ r. (path : List ℕ) → list_any (bytes_eq path) paths ≡ true → meets path r ≡ false)
-    → job_root_view root (files_by nodes (creating_all paths)) ≡ job_root_view root nodes
+    → root_view_in (Some (files_by nodes (creating_all paths))) root ≡ root_view_in (Some nodes) root
 root_view-made None paths nodes apart = refl
 root_view-made (Some root) paths nodes apart = λ i. record { root = Some root; part = below-made root paths nodes apart i; parent = parent-made root paths nodes apart i }

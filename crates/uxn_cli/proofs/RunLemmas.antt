@@ -6,13 +6,16 @@ use Rattle.uxn_cli.proofs.Common.{files-contents, Done, Ended, blame_of_tree, en
 use Rattle.uxn_cli.proofs.Common.{TheTree, ASink, TreeState, SinkState, Outside, outside, Stop, TreeFault, SinkFault, NoMemory, BusRepresents}
 use Rattle.uxn_cli.proofs.Common.{FilesStay, IsFileWhereKnown, ScriptView, State, Trace, CountingLaw, DebugCommand, IsMachine, RunLaw, Task, Debug}
 use Rattle.uxn_cli.proofs.Common.{outputs_of, command_root, paths_used, HasApartOutputs, run_files, role_path, Halt, Refused, Stopped, world, result_blame}
-use Rattle.uxn_cli.proofs.Common.{Debugging, RunJob, RootView, no_root_view, job_root_view, first_devices, log_paths, job_outputs, reference_trace, trace_of, state_shown, log_text}
+use Rattle.uxn_cli.proofs.Common.{Debugging, RunJob, RootView, root_view_in, first_devices, log_paths, job_outputs, reference_trace, trace_of, state_shown, log_text}
 use Rattle.uxn_cli.proofs.Common.{log_texts, requested_output, creating_all, filling_all, reporting, running, TreeSuffices, SinksSuffice, Run, run_job, debugging}
-use Rattle.uxn_cli.proofs.Common.{Validates, HasUnknownContents, ListsFolder, MayStop, Performs, DoesWork, AreNew, IsRootViewOf, IsPlanned, IsReady, IsReadyRun}
-use Rattle.uxn_cli.proofs.Common.{prepared_debugging, Made, HalfMade, MakesOutputs, model_of_program, stop_blame, IfSome_then, CutShort, arith, result_and, result_or}
+use Rattle.uxn_cli.proofs.Common.{HasUnknownContents, ListsFolder, MayStop, Performs, DoesWork, AreNew, IsPlanned, IsReadyRun, prepared_plan, Gives, inquiry_of, planned, HasNoRoot}
+use Rattle.uxn_cli.proofs.Common.{prepared_debugging, Made, HalfDone, MakesOutputs, model_of_program, stop_blame, IfSome_then, CutShort, arith, result_and, result_or}
 use Rattle.uxn_cli.proofs.Common.{Each, HostState, host_state, observed_outside, Exits, EndsBy, CountsRefusals, OnRefused}
 use Rattle.std.proofs.Math.Bool.{or-true}
 use Rattle.uxn_io_traits.specs.AppendingLaws.{changed_by-file}
+use Rattle.uxn_io_traits.specs.Ended.{RefusesNone, Refused as CreateRefused}
+use Rattle.uxn_io_traits.specs.Room.{Room}
+use Rattle.uxn_io_traits.specs.Taking.{TreeTakes}
 use Rattle.uxn_io_traits.specs.TakingLaws.{takes-first}
 use Rattle.uxn_opcodes.specs.Ports.{result_blame as blame_of_result}
 use Rattle.varvara_bus.specs.declared.bus.Bus.{Bus}
@@ -35,9 +38,11 @@ use Rattle.uxn_cli.proofs.RegularLemmas.{is-regular}
 use Rattle.uxn_cli.proofs.RootLemmas.{outputs-outside, root_view-made, all-apart}
 use Rattle.uxn_cli.proofs.GuaranteedLemmas.{always}
 use Rattle.uxn_cli.proofs.ChangeLemmas.{made-of-tree}
-use Rattle.uxn_cli.proofs.WorkLemmas.{validates_work, halted-looked, does-all, does-prefix, is-cut}
+use Rattle.uxn_cli.proofs.PlanLemmas.{plan-outputs, plan-root, plan-accepted}
+use Rattle.uxn_cli.proofs.WorkLemmas.{halted-looked, does-all, does-prefix, is-cut}
 use Rattle.uxn_cli.proofs.WriteLemmas.{does-refuse}
 use Rattle.uxn_cli.proofs.RefusalLemmas.{counts-run}
+use Rattle.uxn_task_files.proofs.DidLemmas.{refused-then}
 
 -- ---- texts that are written after a run
 
@@ -187,23 +192,25 @@ same-blame result = grind arith
 
 -- ---- what a run does to the outside
 
-module _ (task : Task) (start : TreeState) (job : RunJob) (included : List (List ℕ)) (plan : IsPlanned start.contents task (Run job) included) where
-  abbrev rest : List Change
-  rest = reporting job.report job.script.version (trace_of job) ++ filling_all (log_texts job.debug (trace_of job))
+module _ (task : Task) (start : TreeState) (job : RunJob) (included : List (List ℕ)) (plan : IsPlanned start.contents task (planned (Run job) included)) where
+  abbrev rest : Option Nodes → List Change
+  rest files = reporting job.report job.script.version (trace_of files job) ++ filling_all (log_texts job.debug (trace_of files job))
 
-  half-made : (now : TreeState) (out err : SinkState) → HalfMade included (outputs_of task) start now → DoesWork (Ok task) (host_state start out err) (host_state now out err) (Err (Stopped TreeFault))
+  half-made : (now : TreeState) (out err : SinkState) → HalfDone included (outputs_of task) (creating_all (outputs_of task)) start now
+      → DoesWork (Ok task) (host_state start out err) (host_state now out err) (Err (Stopped TreeFault))
   unfolding running
   half-made now out err half =
+      let outputs = plan-outputs start.contents task _ plan in
       let short = outside-of-tree (creating_all (outputs_of task)) true start now out err (made-of-tree (outputs_of task)) half.did in
-      does-prefix (Ok task) _ _ (Ok (Run job)) (validates_work task start.contents (Run job) included plan half.free) TreeFault tt
-      (record { cut = cut-first _ _ (creating_all (job_outputs job)) rest (rw plan.outputs at short.cut); short = λ text. absurd text }) short.ledger
-      (IfSome_then start.contents short.not_guaranteed (λ nodes not suffices is. not (rw plan.outputs (takes-first start.guaranteed nodes (creating_all (job_outputs job)) rest suffices.takes))))
+      does-prefix (Ok task) _ _ (Ok (Run job)) (plan-accepted start.contents task _ plan half.free) TreeFault tt
+      (record { cut = cut-first _ _ (creating_all (job_outputs job)) (rest start.contents) (rw outputs at short.cut); short = λ text. absurd text }) short.ledger
+      (IfSome_then start.contents short.not_guaranteed (λ nodes not suffices is. not (rw outputs (takes-first start.guaranteed nodes (creating_all (job_outputs job)) (rest (Some nodes)) suffices))))
       (λ s e. cc e) (λ any. inl half.refusals)
 
   -- the outputs were not made
   pub does-unmade : (now : TreeState) (out err : SinkState) (halt : Halt) → MakesOutputs included (outputs_of task) start now (Err halt)
       → DoesWork (Ok task) (host_state start out err) (host_state now out err) (Err halt)
-  does-unmade now out err (Refused refusal) refuses = does-refuse task start (Run job) included plan now out err refusal refuses
+  does-unmade now out err (Refused refusal) refuses = does-refuse task start _ plan now out err refusal refuses
   does-unmade now out err (Stopped NoMemory) looked =
       halted-looked (Ok task) start now out err (Stopped NoMemory) (inl (ap (λ t. world t out.contents err.contents) looked.contents)) (λ is. cc is) looked
   does-unmade now out err (Stopped TreeFault) (inl looked) =
@@ -211,20 +218,26 @@ module _ (task : Task) (start : TreeState) (job : RunJob) (included : List (List
   does-unmade now out err (Stopped TreeFault) (inr half) = half-made now out err half
   does-unmade now out err (Stopped SinkFault) none = absurd none
 
-may-stop : (job : RunJob) (stop : Stop) → (stop ≡ NoMemory → IsSome job.debug ⊎ ListsFolder job) → MayStop (Ok (Run job)) stop
-may-stop job TreeFault memory = tt
-may-stop job SinkFault memory = tt
-may-stop job NoMemory memory = memory refl
+may-stop : (files : Option Nodes) (job : RunJob) (stop : Stop) → (stop ≡ NoMemory → IsSome job.debug ⊎ ListsFolder files job) → MayStop files (Ok (Run job)) stop
+may-stop files job TreeFault memory = tt
+may-stop files job SinkFault memory = tt
+may-stop files job NoMemory memory = memory refl
 
 -- whoever is to blame did not suffice
-tree-spared : (job : RunJob) (stop : Stop) (before now : Outside) → CutShort (running job) (stop_blame stop) before now
+spared-known : (files : Option Nodes) (room : Room) (changes : Option Nodes → List Change) → IfSome files (λ nodes. TreeTakes room nodes (changes files) → ⊥)
+    → IfSome files (λ nodes. TreeTakes room nodes (changes (Some nodes)) → ⊥)
+spared-known None room changes not = tt
+spared-known (Some nodes) room changes not = not
+
+tree-spared : (job : RunJob) (stop : Stop) (before now : Outside) → CutShort (running before.world.files job) (stop_blame stop) before now
     → IfSome before.world.files (λ nodes. TreeSuffices (Ok (Run job)) before.guaranteed.tree nodes → stop_blame stop ≡ TheTree → ⊥)
-tree-spared job TreeFault before now short = IfSome_then before.world.files short.not_guaranteed (λ nodes not suffices e. not suffices.takes)
+tree-spared job TreeFault before now short =
+    IfSome_then before.world.files (spared-known before.world.files before.guaranteed.tree (λ files. running files job) short.not_guaranteed) (λ nodes not suffices e. not suffices)
 tree-spared job SinkFault before now short = always before.world.files _ _ (λ e. cc e)
 tree-spared job NoMemory before now short = always before.world.files _ _ (λ e. cc e)
 
-sinks-spared : (job : RunJob) (stop : Stop) (before now : Outside) → CutShort (running job) (stop_blame stop) before now
-    → SinksSuffice (Ok (Run job)) before.guaranteed.out before.guaranteed.err → stop_blame stop ≡ ASink → ⊥
+sinks-spared : (job : RunJob) (stop : Stop) (before now : Outside) → CutShort (running before.world.files job) (stop_blame stop) before now
+    → SinksSuffice before.world.files (Ok (Run job)) before.guaranteed.out before.guaranteed.err → stop_blame stop ≡ ASink → ⊥
 sinks-spared job TreeFault before now short suffices e = cc e
 sinks-spared job SinkFault before now short suffices e = short.not_guaranteed suffices.0 suffices.1
 sinks-spared job NoMemory before now short suffices e = cc e
@@ -239,46 +252,52 @@ at-start contents_of_tree bus devices tree script root_view held borrowed root n
 }
 
 -- memory ran out to the debugger, or where there is a root and a run beneath it takes the names of a folder
-lists : (job : RunJob) → IsSome job.debug ⊎ IsSome job.root_view.root → IsSome job.debug ⊎ TraceTakesNames (trace_of job) → IsSome job.debug ⊎ ListsFolder job
-lists job (inl watched) takes = inl watched
-lists job (inr root) (inl watched) = inl watched
-lists job (inr root) (inr takes) = inr (record { root = root; takes = takes })
+lists : (files : Option Nodes) (job : RunJob) → IsSome job.debug ⊎ IsSome job.root → IsSome job.debug ⊎ TraceTakesNames (trace_of files job) → IsSome job.debug ⊎ ListsFolder files job
+lists files job (inl watched) takes = inl watched
+lists files job (inr root) (inl watched) = inl watched
+lists files job (inr root) (inr takes) = inr (record { root = root; takes = takes })
 
 -- the folder of a program's own files once the outputs were made
-root_view-files : (tree made : Option Nodes) (task : Task) (root_view : RootView) (out err : Option (List ℕ)) → IsRootViewOf tree task root_view → HasApartOutputs task → command_root task.command task ≡ (role_path task role.Root)
+root_view-files : (tree made : Option Nodes) (task : Task) (out err : Option (List ℕ)) → HasApartOutputs task → command_root task.command task ≡ (role_path task role.Root)
     → world made out err ≡ changed_by (world tree out err) (creating_all (outputs_of task))
-    → HasFiles made root_view.root root_view.part root_view.parent ⊎ ((tree ≡ None) × IsSome root_view.root)
-root_view-files None made task root_view out err at apart same is =
-    let gone : made ≡ None = ap (λ w. w.files) is ∙ files-contents (world None out err) (creating_all (outputs_of task)) in
-    go (role_path task role.Root) at.root at.none gone
+    → HasFiles made (role_path task role.Root) (root_view_in tree (role_path task role.Root)).part (root_view_in tree (role_path task role.Root)).parent ⊎ ((tree ≡ None) × IsSome (role_path task role.Root))
+root_view-files None made task out err apart same is =
+    let gone : made ≡ None = ap (λ w. w.files) is ∙ files-contents (world None out err) (creating_all (outputs_of task)) in go (role_path task role.Root) gone
   where
-    go : (root : Option (List ℕ)) → root_view.root ≡ root → (root ≡ None → root_view ≡ no_root_view) → made ≡ None → HasFiles made root_view.root root_view.part root_view.parent ⊎ ((◌≡◌ {A = Option Nodes} None None) × IsSome root_view.root)
-    go None is none gone = inl (rw (gone, none refl) (refl, refl, refl))
-    go (Some root) is none gone = inr (refl, rw is refl)
-root_view-files (Some nodes) made task root_view out err at apart same is =
+    go : (root : Option (List ℕ)) → made ≡ None → HasFiles made root (root_view_in None root).part (root_view_in None root).parent ⊎ ((◌≡◌ {A = Option Nodes} None None) × IsSome root)
+    go None gone = inl (rw gone (refl, refl, refl))
+    go (Some root) gone = inr (refl, refl)
+root_view-files (Some nodes) made task out err apart same is =
+    let root = role_path task role.Root in
     let now : made ≡ Some (files_by nodes (creating_all (outputs_of task))) = ap (λ w. w.files) is ∙ files-contents (world (Some nodes) out err) (creating_all (outputs_of task)) in
-    let kept : job_root_view (role_path task role.Root) (files_by nodes (creating_all (outputs_of task))) ≡ job_root_view (role_path task role.Root) nodes = root_view-made (role_path task role.Root) (outputs_of task) nodes (rw same at (all-apart task apart)) in
-    inl (rw (now, at.contents) (sym (ap (λ h. h.part) kept), sym (ap (λ h. h.parent) kept)))
+    let kept : root_view_in (Some (files_by nodes (creating_all (outputs_of task)))) root ≡ root_view_in (Some nodes) root = root_view-made root (outputs_of task) nodes (rw same at (all-apart task apart)) in
+    inl (rw now (sym (ap (λ h. h.part) kept), sym (ap (λ h. h.parent) kept)))
 
 -- a machine that is ready runs the trace of its job
-module _ (task : Task) (start made : TreeState) (prepared : Prepared) (of : IsReadyRun start.contents task prepared) (apart : HasApartOutputs task)
-    (makes : Made (model_of_program prepared.program).included (outputs_of task) start made) where
+module _ (task : Task) (start made : TreeState) (prepared : Prepared) (plan : IsPlanned start.contents task (prepared_plan task prepared)) (of : IsReadyRun task prepared)
+    (apart : HasApartOutputs task) (makes : Made (model_of_program prepared.program).included (outputs_of task) start made) where
   abbrev debug : Option Debugging
   debug = prepared_debugging task prepared
 
-  abbrev ready : IsReady start.contents task (prepared_debugging task prepared) (model_of_program prepared.program).included prepared.machine
-  ready = of.ready
-
   abbrev ready_job : RunJob
-  ready_job = run_job task of.ready.root_view of.ready.rom prepared.machine.script (prepared_debugging task prepared)
+  ready_job = run_job task (model_of_program prepared.program).rom prepared.machine.script (prepared_debugging task prepared)
 
-  ready-trace : task_trace task prepared.machine of.ready.root_view ≡ trace_of ready_job
-  ready-trace = ap (reference_trace task.budget (task_settings task).outputs prepared.machine.script of.ready.root_view) of.ready.core
+  abbrev ready_view : RootView
+  ready_view = root_view_in start.contents (role_path task role.Root)
+
+  outputs : outputs_of task ≡ job_outputs ready_job
+  outputs = plan-outputs start.contents task _ plan
+
+  root : command_root task.command task ≡ (role_path task role.Root)
+  root = sym (plan-root start.contents task _ plan)
+
+  ready-trace : task_trace task prepared.machine ready_view ≡ trace_of start.contents ready_job
+  ready-trace = ap (reference_trace task.budget (task_settings task).outputs prepared.machine.script ready_view) of.core
 
   output-at : (path : List ℕ) → list_any (bytes_eq path) (log_paths debug ++ run_outputs task) ≡ true → IsOutput (role_path task role.Root) made.contents path
   output-at path among =
-      let here : list_any (bytes_eq path) (outputs_of task) ≡ true = rw ready.planned.outputs (subst (λ runs. list_any (bytes_eq path) (log_paths debug ++ runs) ≡ true) (run-job task) among) in
-      record { file = makes.files path here; outside = rw ready.root at (outputs-outside task path apart here) }
+      let here : list_any (bytes_eq path) (outputs_of task) ≡ true = rw outputs (subst (λ runs. list_any (bytes_eq path) (log_paths debug ++ runs) ≡ true) (run-job task) among) in
+      record { file = makes.files path here; outside = rw root at (outputs-outside task path apart here) }
 
   -- its log, and its other files
   pub ready-outputs : IfSome debug (λ d. IfSome d.log (IsOutput (role_path task role.Root) made.contents)) × Each (IsOutput (role_path task role.Root) made.contents) (run_outputs task)
@@ -295,53 +314,57 @@ module _ (task : Task) (start made : TreeState) (prepared : Prepared) (of : IsRe
       }
 
   -- the run, behind outputs that were made
-  module _ (out err : SinkState) (now : HostState) where
+  module _ (out err : SinkState) (now : HostState) (refuses : (role_path task role.Root) ≡ None → RefusesNone made now.tree) where
     begun : Done (creating_all (outputs_of task)) (outside start out err) (outside made out err)
     begun = outside-of-tree (creating_all (outputs_of task)) false start made out err (made-of-tree (outputs_of task)) makes.did
 
-    root_view : HasFiles made.contents ready.root_view.root ready.root_view.part ready.root_view.parent ⊎ ((start.contents ≡ None) × IsSome ready.root_view.root)
-    root_view = root_view-files start.contents made.contents task ready.root_view out.contents err.contents ready.at_root_view apart ready.root begun.world
+    root_view : HasFiles made.contents (role_path task role.Root) ready_view.part ready_view.parent ⊎ ((start.contents ≡ None) × IsSome (role_path task role.Root))
+    root_view = root_view-files start.contents made.contents task out.contents err.contents apart root begun.world
 
-    validated : Validates (Ok task) start.contents (Ok (Run ready_job))
-    validated = validates_work task start.contents (Run ready_job) _ ready.planned makes.free
+    given : Gives start.contents (inquiry_of (Ok task)) (Ok (Run ready_job))
+    given = plan-accepted start.contents task _ plan makes.free
 
     abbrev Went : Result RunEnd Stop → Type 0
     Went result = RunsFromRoot (role_path task role.Root) (task_trace task prepared.machine) (logged_changes task prepared.machine debug) (IsSome debug) (outside made out err) (observed_outside now) result
 
     abbrev Ran : Result RunEnd Stop → Type 0
-    Ran result = RunsOverOutside (trace_of ready_job) (logged_changes task prepared.machine debug (trace_of ready_job)) (IsSome debug) (outside made out err) (observed_outside now) result
+    Ran result = RunsOverOutside (trace_of start.contents ready_job) (logged_changes task prepared.machine debug (trace_of start.contents ready_job)) (IsSome debug) (outside made out err) (observed_outside now) result
 
     -- all of it, with the outputs
-    all : (result : Result RunEnd Stop) → Ran result → Ended (running ready_job) (blame_if result) (outside start out err) (observed_outside now)
+    all : (result : Result RunEnd Stop) → Ran result → Ended (running start.contents ready_job) (blame_if result) (outside start out err) (observed_outside now)
     unfolding running
     all result ran =
-        rw ready.planned.outputs at (ended-then (creating_all (outputs_of task)) (logged_changes task prepared.machine debug (trace_of ready_job)) (blame_if result)
+        rw outputs at (ended-then (creating_all (outputs_of task)) (logged_changes task prepared.machine debug (trace_of start.contents ready_job)) (blame_if result)
         (outside start out err) (outside made out err) (observed_outside now) begun ran.made)
 
-    passes : (result : Result RunEnd Stop) → Went result → CountsRefusals (Ok task) start now.tree (answered result)
-    passes (Ok end) runs = counts-run (Ok task) start now.tree (Exits end.exit) runs.code (λ reason no. cc) (λ none. none of.runs)
-    passes (Err stop) runs = counts-run (Ok task) start now.tree (EndsBy stop) tt (λ reason no. cc) (λ none. none of.runs)
+    none-refused : HasNoRoot (Ok task) → CreateRefused None start now.tree
+    none-refused none = refused-then None start made now.tree makes.refusals makes.did.counted.promise (refuses (sym root ∙ none)).none
+
+    passes : (result : Result RunEnd Stop) → Went result → CountsRefusals (Ok task) start now.tree err now.err (answered result)
+    passes (Ok end) runs = counts-run (Ok task) start now.tree err now.err (Exits end.exit) runs.code (λ reason no. cc) none-refused
+    passes (Err stop) runs = counts-run (Ok task) start now.tree err now.err (EndsBy stop) tt (λ reason no. cc) none-refused
 
     -- where a tree tells what lies beneath the root
     does-contents : (result : Result RunEnd Stop) → Went result → Ran result → DoesWork (Ok task) (host_state start out err) now (answered result)
     does-contents (Ok end) runs ran =
         let done = all (Ok end) ran in
-        does-all (Ok task) (host_state start out err) now _ validated end.exit (ap (λ (e : RunEnd). e.exit) ran.ends) done.world done.ledger (passes (Ok end) runs)
+        does-all (Ok task) (host_state start out err) now _ given end.exit (ap (λ (e : RunEnd). e.exit) ran.ends) done.world done.ledger (passes (Ok end) runs)
     does-contents (Err stop) runs ran =
-        let short : CutShort (running ready_job) (stop_blame stop) (outside start out err) (observed_outside now) = rw (same-blame (Err stop)) at (all (Err stop) ran) in
-        does-prefix (Ok task) (host_state start out err) now _ validated stop (may-stop ready_job stop (λ wanted. lists ready_job (rw ready.at_root_view.root (runs.memory wanted)) (ran.names wanted)))
+        let short : CutShort (running start.contents ready_job) (stop_blame stop) (outside start out err) (observed_outside now) = rw (same-blame (Err stop)) at (all (Err stop) ran) in
+        does-prefix (Ok task) (host_state start out err) now _ given stop (may-stop start.contents ready_job stop (λ wanted. lists start.contents ready_job (runs.memory wanted) (ran.names wanted)))
         (record { cut = short.cut; short = λ text. absurd text }) short.ledger (tree-spared ready_job stop _ _ short) (sinks-spared ready_job stop _ _ short)
         (passes (Err stop) runs)
 
     -- where its contents are unknown
     performs : HasUnknownContents start.contents (Ok (Run ready_job)) → (result : Result RunEnd Stop) → Went result → Performs (Ok task) (world start.contents out.contents err.contents) (observed_outside now).world (answered result)
-    performs unknown (Ok end) runs = record { found = Ok (Run ready_job); validates = validated; has = inr (unknown, runs.code) }
-    performs unknown (Err stop) runs = is-cut _ _ _ stop (record { found = Ok (Run ready_job); validates = validated; may = inr unknown; prefix = inr unknown })
+    performs unknown (Ok end) runs = record { found = Ok (Run ready_job); given = given; has = inr (unknown, runs.code) }
+    performs unknown (Err stop) runs = is-cut _ _ _ stop (record { found = Ok (Run ready_job); given = given; may = inr unknown; prefix = inr unknown })
 
     pub does-run : (result : Result RunEnd Stop) → Went result → DoesWork (Ok task) (host_state start out err) now (answered result)
     does-run result runs = elim root_view [
       | inl files ↦ does-contents result runs
-          (subst (λ t. RunsOverOutside t (logged_changes task prepared.machine debug t) (IsSome debug) (outside made out err) (observed_outside now) result) ready-trace (runs.from ready.root_view ready.at_root_view.root files))
+          (subst (λ t. RunsOverOutside t (logged_changes task prepared.machine debug t) (IsSome debug) (outside made out err) (observed_outside now) result) ready-trace
+          (runs.from ready_view refl files))
       | inr none ↦ record {
         performs = performs (rw none.0 none.1) result runs;
         ledger = ledger-then _ _ _ _ begun.ledger (rw (← same-blame result) runs.ledger);

@@ -1,5 +1,5 @@
 -- What a call gives, and what stands where it ends early.
-use Rattle.std.specs.Prelude.{◌≡◌, ◌≢◌, ℕ, ◌≤◌, [], Option, Some, None, Result, Ok, Err, IfOk, IfSome, IsSome, ◌⊎◌}
+use Rattle.std.specs.Prelude.{◌≡◌, ◌≢◌, ℕ, ◌≤◌, [], Option, Some, None, Result, Ok, Err, IsSome, ◌⊎◌}
 use Rattle.uxn_io_traits.specs.Files.{Nodes}
 use Rattle.uxn_io_traits.specs.Outside.{World, changed_by, IsCutOff}
 use Rattle.uxn_opcodes.specs.declared.Stop.{Stop}
@@ -10,9 +10,8 @@ use Rattle.uxn_task_files.specs.declared.refusal.Refusal.{Refusal}
 use Rattle.uxn_task_files.specs.declared.refusal.Halt.{Halt}
 use Rattle.uxn_task_files.specs.declared.refusal.Halt.TheVariants.{Refused, Stopped}
 use Rattle.uxn_task_files.specs.Statuses.{early_status}
-use Rattle.uxn_task_files.specs.Views.{InputsView}
-use Rattle.uxn_cli.specs.Verdict.{Work, Run, Write, Print, RunLine, verdict}
-use Rattle.uxn_task_files.specs.Views.{file_observed, symbols_observed, script_observed, commands_observed, part_observed, parent_observed, named_observed, blocked_observed}
+use Rattle.uxn_inquiry.specs.Gives.{Gives}
+use Rattle.uxn_cli.specs.Verdict.{Work, Run, Write, Print, RunLine, inquiry_of}
 use Rattle.uxn_cli.specs.Outcome.{Outcome, outcome_of}
 use Rattle.uxn_cli.specs.RunJob.{RunJob, trace_of}
 
@@ -21,31 +20,11 @@ pub record HasOutcome (o : Outcome) (before now : World) (answer : ℕ) : Type 0
   pub status : answer ≡ o.status
   pub world : now ≡ changed_by before o.changes
 
--- the view of a task is what stands in the tree, where the contents are known
-pub record IsViewOf (tree : Option Nodes) (task : Task) (view : InputsView) : Type 0 where
-  pub file : IfSome tree (λ nodes. view.file ≡ file_observed nodes task)
-  pub symbols : IfSome tree (λ nodes. view.symbols ≡ symbols_observed nodes task)
-  pub script : IfSome tree (λ nodes. view.script ≡ script_observed nodes task)
-  pub commands : IfSome tree (λ nodes. view.commands ≡ commands_observed nodes task)
-  pub part : IfSome tree (λ nodes. view.part ≡ part_observed nodes task)
-  pub parent : IfSome tree (λ nodes. view.parent ≡ parent_observed nodes task)
-  pub named : IfSome tree (λ nodes. view.named ≡ named_observed nodes task)
-  pub blocked : IfSome tree (λ nodes. view.blocked ≡ blocked_observed nodes task)
-
-abbrev pub IsViewFor : Option Nodes → Result Task Refusal → InputsView → Type 0
-IsViewFor tree requested view = IfOk requested (λ task. IsViewOf tree task view)
-
--- a verdict on what was asked and on what was observed
-pub record Validates (requested : Result Task Refusal) (tree : Option Nodes) (verdict_is : Result Work Refusal) : Type 0 where
-  pub view : InputsView
-  pub observed : IsViewFor tree requested view
-  pub validated : verdict requested view ≡ verdict_is
-
 -- what a run does beneath a root is not known, where the tree has unknown contents
 abbrev pub HasUnknownContents : Option Nodes → Result Work Refusal → Type 0
 HasUnknownContents (Some nodes) found = ⊥
 HasUnknownContents None (Err refusal) = ⊥
-HasUnknownContents None (Ok (Run job)) = IsSome job.root_view.root
+HasUnknownContents None (Ok (Run job)) = IsSome job.root
 HasUnknownContents None (Ok (Write texts)) = ⊥
 HasUnknownContents None (Ok (Print text)) = ⊥
 HasUnknownContents None (Ok (RunLine job)) = ⊥
@@ -53,30 +32,30 @@ HasUnknownContents None (Ok (RunLine job)) = ⊥
 -- the call ended with the outcome of its verdict; with some exit code, where what the run does is not known
 pub record CallHasEnded (requested : Result Task Refusal) (before now : World) (answer : ℕ) : Type 0 where
   pub found : Result Work Refusal
-  pub validates : Validates requested before.files found
-  pub has : HasOutcome (outcome_of found) before now answer ⊎ (HasUnknownContents before.files found × (answer ≤ 127))
+  pub given : Gives before.files (inquiry_of requested) found
+  pub has : HasOutcome (outcome_of before.files found) before now answer ⊎ (HasUnknownContents before.files found × (answer ≤ 127))
 
 -- it is refused, and nothing was done yet
 pub record CallIsRefused (requested : Result Task Refusal) (before now : World) (refusal : Refusal) : Type 0 where
-  pub validates : Validates requested before.files (Err refusal)
+  pub given : Gives before.files (inquiry_of requested) (Err refusal)
   pub same : now ≡ before
 
 -- a run takes the names of a folder, at or beneath its root
-pub record ListsFolder (job : RunJob) : Type 0 where
-  pub root : IsSome job.root_view.root
-  pub takes : TraceTakesNames (trace_of job)
+pub record ListsFolder (files : Option Nodes) (job : RunJob) : Type 0 where
+  pub root : IsSome job.root
+  pub takes : TraceTakesNames (trace_of files job)
 
 -- what may stop a call in the middle of its changes: a sink where bytes are put on one, the tree where files are written, and
 -- running out of memory where a debugger watches a run, or a run lists a folder
-abbrev pub MayStop : Result Work Refusal → Stop → Type 0
-MayStop (Err refusal) SinkFault = Unit {0}
-MayStop (Ok (Run job)) TreeFault = Unit {0}
-MayStop (Ok (Run job)) SinkFault = Unit {0}
-MayStop (Ok (Run job)) NoMemory = IsSome job.debug ⊎ ListsFolder job
-MayStop (Ok (Write texts)) TreeFault = Unit {0}
-MayStop (Ok (Print text)) SinkFault = Unit {0}
-MayStop (Ok (RunLine job)) SinkFault = Unit {0}
-MayStop _ _ = ⊥
+abbrev pub MayStop : Option Nodes → Result Work Refusal → Stop → Type 0
+MayStop files (Err refusal) SinkFault = Unit {0}
+MayStop files (Ok (Run job)) TreeFault = Unit {0}
+MayStop files (Ok (Run job)) SinkFault = Unit {0}
+MayStop files (Ok (Run job)) NoMemory = IsSome job.debug ⊎ ListsFolder files job
+MayStop files (Ok (Write texts)) TreeFault = Unit {0}
+MayStop files (Ok (Print text)) SinkFault = Unit {0}
+MayStop files (Ok (RunLine job)) SinkFault = Unit {0}
+MayStop files _ _ = ⊥
 
 -- all that is done is to put one text, of a line the bytes of its last machine
 abbrev pub IsText : Result Work Refusal → Type 0
@@ -87,13 +66,13 @@ IsText _ = ⊥
 
 -- of what was to be done a prefix was done; of a text that was to be put a prefix that is shorter
 pub record HasPrefix (found : Result Work Refusal) (before now : World) : Type 0 where
-  pub cut : IsCutOff before now (outcome_of found).changes
+  pub cut : IsCutOff before now (outcome_of before.files found).changes
   pub short : IsText found → cut.rest ≢ []
 
 pub record HasCut (requested : Result Task Refusal) (before now : World) (stop : Stop) : Type 0 where
   pub found : Result Work Refusal
-  pub validates : Validates requested before.files found
-  pub may : MayStop found stop ⊎ HasUnknownContents before.files found
+  pub given : Gives before.files (inquiry_of requested) found
+  pub may : MayStop before.files found stop ⊎ HasUnknownContents before.files found
   pub prefix : HasPrefix found before now ⊎ HasUnknownContents before.files found
 
 -- what stands after a call that ended early: all is as it was, or a prefix of what was to be done was done

@@ -9,10 +9,9 @@ use Rattle.uxn_io_traits.specs.Known.{extended}
 use Rattle.uxn_io_traits.specs.Files.{Nodes}
 use Rattle.uxn_arguments.specs.declared.task.Task.{Task}
 use Rattle.uxn_task_files.specs.declared.refusal.Refusal.{Refusal}
-use Rattle.uxn_cli.specs.Verdict.{Work, validated}
+use Rattle.uxn_inquiry.specs.Inquiry.{answer_in}
+use Rattle.uxn_cli.specs.Verdict.{Work, inquiry_of}
 use Rattle.uxn_arguments.specs.Places.{outputs_of, command_root}
-use Rattle.uxn_task_files.specs.Request.{then_requests}
-use Rattle.uxn_task_files.specs.Views.{view_of}
 use Rattle.uxn_task_files.specs.Statuses.{Status, number, IsEarly}
 use Rattle.uxn_cli.specs.Outcome.{outcome_of}
 
@@ -23,11 +22,11 @@ pub record IsExactly (answer : ℕ) (status : Status) (P : Type 0) : Type 0 wher
 
 -- the verdict on words and on what stands in a tree
 abbrev pub tree_verdict : Nodes → Result Task Refusal → Result Work Refusal
-tree_verdict nodes requested = then_requests requested (λ task. validated task (view_of nodes task))
+tree_verdict nodes requested = answer_in nodes (inquiry_of requested)
 
 -- what is accepted ends with this exit code
-abbrev pub EndsWith : ℕ → Result Work Refusal → Type 0
-EndsWith code verdict = (work : Work) × (verdict ≡ Ok work) × ((outcome_of (Ok work)).status ≡ code)
+abbrev pub EndsWith : Option Nodes → ℕ → Result Work Refusal → Type 0
+EndsWith files code verdict = (work : Work) × (verdict ≡ Ok work) × ((outcome_of files (Ok work)).status ≡ code)
 
 -- a line and nothing else was put
 abbrev pub PutsLine : Option (List ℕ) → Option (List ℕ) → Type 0

@@ -41,7 +41,7 @@ pub record HasStatuses (c : Call) : Type 0 where
   pub requested : (reason : Reason) → IsOfWords reason → IsExactly c.status (Refuses reason) (IsRefusedFor reason (call_request c))
   -- every refusal, and every exit code
   pub refused : OfVerdict c (λ verdict. (reason : Reason) → IsExactly c.status (Refuses reason) (IsRefusedFor reason verdict))
-  pub accepted : OfVerdict c (λ verdict. (code : ℕ) → code ≤ 127 → IsExactly c.status (Exits code) (EndsWith code verdict))
+  pub accepted : OfVerdict c (λ verdict. (code : ℕ) → code ≤ 127 → IsExactly c.status (Exits code) (EndsWith c.before.world.files code verdict))
 
 -- why a call ends early
 pub record EndsEarlyByFaults (c : Call) : Type 0 where
@@ -54,13 +54,13 @@ pub record EndsEarlyByFaults (c : Call) : Type 0 where
   pub complete : OfVerdict c (λ verdict. (work : Work) → verdict ≡ Ok work
       → (Rose c.before.faults.tree.faults c.now.faults.tree.faults → ⊥)
       → (Rose c.before.faults.out.faults c.now.faults.out.faults → ⊥) → (Rose c.before.faults.err.faults c.now.faults.err.faults → ⊥)
-      → (c.status ≡ (outcome_of (Ok work)).status) ⊎ (c.status ≡ 138))
+      → (c.status ≡ (outcome_of c.before.world.files (Ok work)).status) ⊎ (c.status ≡ 138))
   -- when out of memory all is as it was, but where a debugger watches the run or it takes the names of a folder
-  pub wanting : OfVerdict c (λ verdict. c.status ≡ 138 → (c.now.world ≡ c.before.world) ⊎ MayStop verdict NoMemory)
+  pub wanting : OfVerdict c (λ verdict. c.status ≡ 138 → (c.now.world ≡ c.before.world) ⊎ MayStop c.before.world.files verdict NoMemory)
 
 -- a cut outcome of a verdict: a prefix of the changes of its outcome was made, perhaps none of them
 abbrev pub IsCutOutcome : Result Work Refusal → World → World → Type 0
-IsCutOutcome verdict before now = IsCutOff before now (outcome_of verdict).changes
+IsCutOutcome verdict before now = IsCutOff before now (outcome_of before.files verdict).changes
 
 -- one text is known to be a prefix of another
 pub record IsPrefixOf (prefix whole : Option (List ℕ)) : Type 0 where
@@ -88,11 +88,11 @@ pub record HoldsTruncated (verdict : Result Work Refusal) (before now : World) :
   -- one of the cut outcomes
   pub cut : IsCutOutcome verdict before now
   -- so each output has a prefix of what the outcome gives it
-  pub out : HoldsPrefix before.out now.out (changed_by before (outcome_of verdict).changes).out
-  pub err : HoldsPrefix before.err now.err (changed_by before (outcome_of verdict).changes).err
+  pub out : HoldsPrefix before.out now.out (changed_by before (outcome_of before.files verdict).changes).out
+  pub err : HoldsPrefix before.err now.err (changed_by before (outcome_of before.files verdict).changes).err
   -- and so has each file that is written, its pictures and its samples too, or it is as it was
   pub files : (path : List ℕ) → IsOutputOf verdict path
-      → HoldsFilePrefix (contents_at path before.files) (contents_at path now.files) (contents_at path (changed_by before (outcome_of verdict).changes).files)
+      → HoldsFilePrefix (contents_at path before.files) (contents_at path now.files) (contents_at path (changed_by before (outcome_of before.files verdict).changes).files)
 
 abbrev pub IsCutShort : Call → Type 0
 IsCutShort c = OfVerdict c (λ verdict. IsEarly c.status → HoldsTruncated verdict c.before.world c.now.world)
@@ -102,8 +102,8 @@ pub record GivesTheSame (c : Call) : Type 0 where
   -- where `debug` comes to its run, `play` with the same items, but for the log
   pub watched : IfSome c.before.world.files (λ nodes. (others : List (List ℕ)) (work : Work) → HaveSameItems c.words others
       → tree_verdict nodes (call_request c) ≡ Ok work
-      → IsEarly c.status ⊎ IsOutcomeButLog (call_request c) (outcome_of (tree_verdict nodes (request others))) c.before.world c.now.world c.status)
-  -- the same call over every other tree that looks the same to it
+      → IsEarly c.status ⊎ IsOutcomeButLog (call_request c) (outcome_of (Some nodes) (tree_verdict nodes (request others))) c.before.world c.now.world c.status)
+  -- the same call over every other tree that replies the same to what it asks, and is the same to the program that it runs
   pub isolated : IfSome c.before.world.files (λ nodes. (other : Nodes) → LookSame (call_request c) nodes other
       → GivesAsOn (call_request c) nodes other c.before.world c.now.world c.status)
 
@@ -111,7 +111,7 @@ pub record GivesTheSame (c : Call) : Type 0 where
 pub record FailsNotWhereGuaranteed (c : Call) : Type 0 where
   pub tree : IfSome c.before.world.files (λ nodes. TreeSuffices (tree_verdict nodes (call_request c)) c.before.guaranteed.tree nodes
       → c.status ≡ 136 → ⊥)
-  pub sinks : OfVerdict c (λ verdict. SinksSuffice verdict c.before.guaranteed.out c.before.guaranteed.err → c.status ≡ 137 → ⊥)
+  pub sinks : OfVerdict c (λ verdict. SinksSuffice c.before.world.files verdict c.before.guaranteed.out c.before.guaranteed.err → c.status ≡ 137 → ⊥)
 
 -- what a call comes to, from which the rest follows
 pub record ComesOut (c : Call) : Type 0 where

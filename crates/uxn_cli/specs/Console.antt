@@ -1,21 +1,14 @@
 -- The scripts that machines in a line can be given, and the line that a setup joins.
-use Rattle.std.specs.Prelude.{ℕ, Bool, true, false, List, Result, Ok, Err, if◌then◌else◌}
+use Rattle.std.specs.Prelude.{ℕ, List, Result, Ok, Err, if◌then◌else◌}
 use Rattle.std.specs.List.{list_all}
 use Rattle.std.specs.Option.{unwrap_or}
-use Rattle.play_script.specs.declared.script.Event.{Event}
-use Rattle.play_script.specs.declared.script.Event.TheVariants.{Input, EndInput}
 use Rattle.play_script.specs.Scripts.{ScriptView}
 use Rattle.setup_lines.specs.Setups.{SetupView}
-use Rattle.uxn_line.specs.Streams.{LineJob}
+use Rattle.uxn_line.specs.Streams.{LineJob, is_of_console}
 use Rattle.uxn_task_files.specs.declared.refusal.Refusal.{Refusal}
 use Rattle.uxn_task_files.specs.declared.refusal.Refusal.TheVariants.{OtherEvents}
 
--- a script for a line has bytes of input and ends of input alone (139)
-abbrev pub is_of_console : Event → Bool
-is_of_console (Input byte) = true
-is_of_console EndInput = true
-is_of_console _ = false
-
+-- a script for a line has events of the console alone: bytes of input and ends of input (139)
 abbrev pub console_script : ScriptView → Result ScriptView Refusal
 console_script script = if list_all is_of_console script.events then Ok script else Err OtherEvents
 

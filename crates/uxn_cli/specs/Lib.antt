@@ -3,14 +3,12 @@ pub mod Verdict
 pub mod RunJob
 pub mod Outcome
 pub mod Room
-pub mod Prepared
 pub mod RunsFromRoot
 pub mod Joined
+pub mod Prepared
 pub mod Answer
 pub mod Causes
 pub mod Outside
-pub mod ValidatesTask
-pub mod OpcodeNames
 pub mod Observation
 pub mod Isolation
 pub mod Workload

@@ -27,13 +27,13 @@ abbrev pub watched : RunJob → Debugging → RunJob
 watched job debugging = record job { debug = Some debugging }
 
 -- the file of the log is made, the run is made, and the log is written
-abbrev pub with_log : RunJob → Debugging → List Change
-with_log job debugging =
-    creating_all (option_to_list debugging.log) ++ (running (unwatched job) ++ filling_all (log_texts (Some debugging) (trace_of job)))
+abbrev pub with_log : Option Nodes → RunJob → Debugging → List Change
+with_log files job debugging =
+    creating_all (option_to_list debugging.log) ++ (running files (unwatched job) ++ filling_all (log_texts (Some debugging) (trace_of files job)))
 
 pub record OnlyWatches : Type 0 where
-  pub status : (job : RunJob) (debugging : Debugging) → exit_of (watched job debugging) ≡ exit_of (unwatched job)
-  pub changes : (job : RunJob) (debugging : Debugging) → running (watched job debugging) ≡ with_log job debugging
+  pub status : (files : Option Nodes) (job : RunJob) (debugging : Debugging) → exit_of files (watched job debugging) ≡ exit_of files (unwatched job)
+  pub changes : (files : Option Nodes) (job : RunJob) (debugging : Debugging) → running files (watched job debugging) ≡ with_log files job debugging
 
 -- what `play` is asked with the items of a `debug` but its commands, its log and its symbols
 abbrev pub played_path : Task → Role → Option (List ℕ)
@@ -79,5 +79,5 @@ pub record IsOutcomeButLog (requested : Result Task Refusal) (o : Outcome) (befo
 -- where `debug` comes to its run, it gives what `play` gives with the same items, but for the log
 pub record ShowsWhatPlayDoes (nodes : Nodes) (requested other : Result Task Refusal) (work : Work) : Type 0 where
   pub run : ComeToOneRun (Ok work) (tree_verdict nodes other)
-  pub given : (before : World) → IsOutcomeButLog requested (outcome_of (tree_verdict nodes other)) before
-      (changed_by before (outcome_of (Ok work)).changes) (outcome_of (Ok work)).status
+  pub given : (before : World) → IsOutcomeButLog requested (outcome_of (Some nodes) (tree_verdict nodes other)) before
+      (changed_by before (outcome_of (Some nodes) (Ok work)).changes) (outcome_of (Some nodes) (Ok work)).status

@@ -1,5 +1,6 @@
 -- What a verdict gives: the status, and the changes outside, in order.
 use Rattle.std.specs.Prelude.{ℕ, List, ◌++◌, map, Option, Result, Ok, Err}
+use Rattle.uxn_io_traits.specs.Files.{Nodes}
 use Rattle.uxn_io_traits.specs.Outside.{Change, ToOut, ToErr}
 use Rattle.uxn_task_files.specs.declared.refusal.Refusal.{Refusal}
 use Rattle.uxn_task_files.specs.Statuses.{status_of}
@@ -25,10 +26,10 @@ abbrev pub reporting : Option (List ℕ) → Version → Trace → List Change
 reporting report version trace = trace.changes ++ filling_all (report_of report version trace.last)
 
 -- a run: its files are made, it runs, its report is written, and then the log of a debugger
-unfoldable pub running : RunJob → List Change
-running job =
+unfoldable pub running : Option Nodes → RunJob → List Change
+running files job =
     creating_all (job_outputs job)
-    ++ (reporting job.report job.script.version (trace_of job) ++ filling_all (log_texts job.debug (trace_of job)))
+    ++ (reporting job.report job.script.version (trace_of files job) ++ filling_all (log_texts job.debug (trace_of files job)))
 
 -- of machines in a line: the exit code of the last one's run, and what it writes to port 18
 abbrev pub line_exit : LineJob → ℕ
@@ -37,9 +38,10 @@ line_exit job = exit_code_at (run_of_machine job (last_machine job)).last
 abbrev pub line_bytes : LineJob → List ℕ
 line_bytes job = stream job (last_machine job)
 
-abbrev pub outcome_of : Result Work Refusal → Outcome
-outcome_of (Err refusal) = record { status = status_of refusal; changes = map (λ byte. ToErr byte) (refusal_line refusal) }
-outcome_of (Ok (Run job)) = record { status = exit_of job; changes = running job }
-outcome_of (Ok (Write texts)) = record { status = 0; changes = writing texts }
-outcome_of (Ok (Print text)) = record { status = 0; changes = printing text }
-outcome_of (Ok (RunLine job)) = record { status = line_exit job; changes = printing (line_bytes job) }
+-- over these files, of which a run sees what lies beneath its root
+abbrev pub outcome_of : Option Nodes → Result Work Refusal → Outcome
+outcome_of files (Err refusal) = record { status = status_of refusal; changes = map (λ byte. ToErr byte) (refusal_line refusal) }
+outcome_of files (Ok (Run job)) = record { status = exit_of files job; changes = running files job }
+outcome_of files (Ok (Write texts)) = record { status = 0; changes = writing texts }
+outcome_of files (Ok (Print text)) = record { status = 0; changes = printing text }
+outcome_of files (Ok (RunLine job)) = record { status = line_exit job; changes = printing (line_bytes job) }

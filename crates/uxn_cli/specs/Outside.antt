@@ -47,7 +47,7 @@ pub record DoesWork (requested : Result Task Refusal) (before now : HostState) (
   pub ledger : Ledger (observed_outside before).faults (observed_outside now).faults (result_blame result)
   pub guaranteed_tree : IfSome before.tree.contents (λ nodes. TreeSuffices (tree_verdict nodes requested) before.tree.guaranteed nodes
       → result_blame result ≡ TheTree → ⊥)
-  pub guaranteed_sinks : IfSome before.tree.contents (λ nodes. SinksSuffice (tree_verdict nodes requested) before.out.guaranteed before.err.guaranteed
+  pub guaranteed_sinks : IfSome before.tree.contents (λ nodes. SinksSuffice before.tree.contents (tree_verdict nodes requested) before.out.guaranteed before.err.guaranteed
       → result_blame result ≡ ASink → ⊥)
-  pub refusals : CountsRefusals requested before.tree now.tree result
+  pub refusals : CountsRefusals requested before.tree now.tree before.err now.err result
   pub kept : OnRefused result (now.err ≡ before.err)

@@ -1,29 +1,37 @@
--- Calls of `create` that a tree refused, as one that is exact counts them. A program that runs makes files of its own, of which nothing
--- is said here.
-use Rattle.std.specs.Prelude.{◌≡◌, ℕ, ◌⊎◌, true, false, None, Result, Ok, Err, IfOk}
+-- Files that a tree refused to create, as one that is exact counts and names them. A program with a root makes files of its own, of which
+-- nothing is said here.
+use Rattle.std.specs.Prelude.{◌≡◌, ℕ, ◌⊎◌, List, None, Some, Result, Ok, Err, IfOk}
 use Rattle.uxn_io_traits.specs.Ended.{Refused as CreateRefused}
-use Rattle.uxn_io_traits.specs.State.{TreeState}
+use Rattle.uxn_io_traits.specs.Known.{extended}
+use Rattle.uxn_io_traits.specs.State.{TreeState, SinkState}
 use Rattle.uxn_arguments.specs.declared.task.Task.{Task}
+use Rattle.uxn_arguments.specs.Places.{command_root}
 use Rattle.uxn_task_files.specs.declared.refusal.Refusal.{Refusal}
+use Rattle.uxn_task_files.specs.declared.refusal.Refusal.TheVariants.{NoOutput}
 use Rattle.uxn_task_files.specs.declared.refusal.Halt.{Halt}
 use Rattle.uxn_task_files.specs.declared.refusal.Halt.TheVariants.{Refused, Stopped}
-use Rattle.uxn_task_files.specs.Statuses.{IsEarly, IsRefusing, early_status, status_of}
-use Rattle.uxn_task_files.specs.Views.{RunsMachine}
+use Rattle.uxn_task_files.specs.Lines.{refusal_line}
+use Rattle.uxn_task_files.specs.Statuses.{IsEarly, IsRefusing, early_status}
 
--- what is asked runs no program
-abbrev pub RunsNone : Result Task Refusal → Type 0
-RunsNone requested = IfOk requested (λ task. RunsMachine task.command → ⊥)
+-- what is asked has no root
+abbrev pub HasNoRoot : Result Task Refusal → Type 0
+HasNoRoot requested = IfOk requested (λ task. command_root task.command task ≡ None)
 
--- none was refused; or one, of a tree of unknown contents, and this came of it
-abbrev pub AtMostOne : TreeState → TreeState → Type 0 → Type 0
-AtMostOne before now P = CreateRefused false before now ⊎ ((before.contents ≡ None) × CreateRefused true before now × P)
+-- none was refused; or one, by a tree of unknown contents, and this came of it
+abbrev pub AtMostOne : TreeState → TreeState → (List ℕ → Type 0) → Type 0
+AtMostOne before now P = CreateRefused None before now ⊎ ((path : List ℕ) × (before.contents ≡ None) × CreateRefused (Some path) before now × P path)
 
--- of a call that runs no program, or is refused: the one is what it is refused for, unless it ended early then
-abbrev pub PassesNoneOver : Result Task Refusal → TreeState → TreeState → ℕ → Type 0
-PassesNoneOver requested before now status = RunsNone requested ⊎ IsRefusing status → AtMostOne before now ((status ≡ 135) ⊎ IsEarly status)
+-- the call is refused for it, and its line names it; or ended early then
+abbrev pub IsTold : SinkState → SinkState → ℕ → List ℕ → Type 0
+IsTold before now status path =
+    ((status ≡ 135) × (now.contents ≡ extended before.contents (refusal_line (NoOutput path)))) ⊎ IsEarly status
 
--- by how a step ended: a task is refused for the one
-abbrev pub CountsRefusals : Result Task Refusal → TreeState → TreeState → Result ℕ Halt → Type 0
-CountsRefusals requested before now (Ok status) = PassesNoneOver requested before now status
-CountsRefusals requested before now (Err (Refused refusal)) = AtMostOne before now (status_of refusal ≡ 135)
-CountsRefusals requested before now (Err (Stopped stop)) = PassesNoneOver requested before now (early_status stop)
+-- of a call that has no root, or is refused
+abbrev pub PassesNoneOver : Result Task Refusal → TreeState → TreeState → SinkState → SinkState → ℕ → Type 0
+PassesNoneOver requested before now err err_now status = HasNoRoot requested ⊎ IsRefusing status → AtMostOne before now (IsTold err err_now status)
+
+-- by how a step ended: a task is refused for the one, whose line is not put yet
+abbrev pub CountsRefusals : Result Task Refusal → TreeState → TreeState → SinkState → SinkState → Result ℕ Halt → Type 0
+CountsRefusals requested before now err err_now (Ok status) = PassesNoneOver requested before now err err_now status
+CountsRefusals requested before now err err_now (Err (Refused refusal)) = AtMostOne before now (λ path. refusal ≡ NoOutput path)
+CountsRefusals requested before now err err_now (Err (Stopped stop)) = PassesNoneOver requested before now err err_now (early_status stop)

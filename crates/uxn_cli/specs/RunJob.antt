@@ -1,6 +1,6 @@
 -- What is run: a ROM with a script, each vector of at most so many instructions, beneath a root; its pictures, its samples and its
 -- report; and the commands of a debugger that watches it.
-use Rattle.std.specs.Prelude.{ℕ, Bool, false, List, map, [], ◌++◌, codes, decimal, Option, Some, None, option_to_list}
+use Rattle.std.specs.Prelude.{ℕ, Bool, unwrap_or, List, map, [], ◌++◌, codes, decimal, Option, Some, None, option_to_list}
 use Rattle.std.specs.FinMap as nodes_map
 use Rattle.uxn_io_traits.specs.Files.{Nodes}
 use Rattle.file_ports.specs.RootPart.{below, parent_is_folder}
@@ -39,18 +39,19 @@ pub record RootView : Type 0 where
   pub part : Nodes
   pub parent : Bool
 
-abbrev pub no_root_view : RootView
-no_root_view = record { root = None; part = nodes_map.empty; parent = false }
+-- as the files of a tree have it, where they are known
+abbrev pub root_view_in : Option Nodes → Option (List ℕ) → RootView
+root_view_in files root =
+    let nodes = unwrap_or files nodes_map.empty in record { root = root; part = below root nodes; parent = parent_is_folder root nodes }
 
--- as the files of a tree have it
-abbrev pub job_root_view : Option (List ℕ) → Nodes → RootView
-job_root_view root nodes = record { root = root; part = below root nodes; parent = parent_is_folder root nodes }
+abbrev pub no_root_view : RootView
+no_root_view = root_view_in None None
 
 pub record RunJob : Type 0 where
   pub rom : List ℕ
   pub script : ScriptView
   pub budget : ℕ
-  pub root_view : RootView
+  pub root : Option (List ℕ)
   pub frames : Option (List ℕ)
   pub samples : Option (List ℕ)
   pub report : Option (List ℕ)
@@ -82,9 +83,9 @@ first_state core script root_view = record { core = core; devices = first_device
 unfoldable pub reference_trace : ℕ → Outputs → ScriptView → RootView → Core → Trace
 reference_trace budget outputs script root_view core = run budget outputs script (first_state core script root_view)
 
--- that of the ROM
-abbrev pub trace_of : RunJob → Trace
-trace_of job = reference_trace job.budget (wanted_outputs job.frames job.samples) job.script job.root_view (new_core job.rom)
+-- that of the ROM, from what lies beneath the root in a tree
+abbrev pub trace_of : Option Nodes → RunJob → Trace
+trace_of files job = reference_trace job.budget (wanted_outputs job.frames job.samples) job.script (root_view_in files job.root) (new_core job.rom)
 
 -- the exit code: the low seven bits of port 0f at the end
 abbrev pub state_exit : State → ℕ
@@ -94,8 +95,8 @@ state_exit state = exit_code_of (stored state.devices.history 0x0f)
 abbrev pub run_end : State → RunEnd
 run_end state = record { exit = state_exit state; tally = state.tally }
 
-abbrev pub exit_of : RunJob → ℕ
-exit_of job = state_exit (trace_of job).last
+abbrev pub exit_of : Option Nodes → RunJob → ℕ
+exit_of files job = state_exit (trace_of files job).last
 
 -- a line of a report: a word and a number
 abbrev pub report_line : List ℕ → ℕ → List ℕ

@@ -1,5 +1,6 @@
 //! The debugger of a run, and the log that it writes.
-ghost use Rattle.std.specs.Prelude.{◌≡◌, ◌≤◌, List, Some, IfSome, ◌<◌, Option, IsSome};
+ghost use Rattle.uxn_io_traits.specs.Ended.{RefusesNone};
+ghost use Rattle.std.specs.Prelude.{◌≡◌, ◌≤◌, List, None, Some, IfSome, ◌<◌, Option, IsSome};
 ghost use Rattle.uxn_cli.specs.Outside.{SameHost, outside_of};
 ghost use Rattle.uxn_debugger.specs.Watching.{held_by, new_watching};
 ghost use Rattle.uxn_cli.specs.Verdict.{debugging};
@@ -46,6 +47,7 @@ pub fn debug_made<T: Tree, O: Sink, E: Sink>(
         → RunsFromRoot (role_path task.now Role.Root) (task_trace task.now machine) (logged_changes task.now machine (Some (debugging task.now commands labels)))
         (IsSome (Some (debugging task.now commands labels)))
         (outside_of T.Tree O.Sink E.Sink host.old) (outside_of T.Tree O.Sink E.Sink host.new) result }
+    ensures refusals { role_path task.now Role.Root ≡ None → RefusesNone (T.state host.old.tree.now) (T.state host.new.tree.now) }
     ensures same { SameHost host.old host.new }
 {
     the_log_is_that_of_the_run();

@@ -12,7 +12,6 @@ ghost use Rattle.uxn_cli.specs.Refused.{PassesNoneOver};
 use super::host::Host;
 use super::work::carry_out;
 use std::alloc::Global;
-use tal_assembly::a_source_looks_at_its_files_alone;
 use uxn_io_traits::{Sink, Tree};
 use uxn_opcodes::Stop;
 use uxn_task_files::{Halt, request};
@@ -66,7 +65,8 @@ fn status_of<T: Tree, O: Sink, E: Sink>(
     words: &[String],
     host: &mut Host<'_, '_, '_, T, O, E>,
 ) -> u8
-    ensures refusals { PassesNoneOver (request (map string_bytes words.now)) (T.state host.old.tree.now) (T.state host.new.tree.now) result }
+    ensures refusals { PassesNoneOver (request (map string_bytes words.now)) (T.state host.old.tree.now) (T.state host.new.tree.now)
+        (E.state host.old.err.now) (E.state host.new.err.now) result }
     ensures comes { ComesOut (call_on T.Tree O.Sink E.Sink words.now host.old host.new result) }
     ensures same { SameHost host.old host.new }
 {
@@ -123,18 +123,17 @@ pub fn uxn<T: Tree, O: Sink, E: Sink>(
     // of what the outcome gives it.
     ensures cut_off { IsCutShort (call T.Tree O.Sink E.Sink words.now tree.old out.old err.old tree.new out.new err.new result) }
 
-    // What other calls give the same: `play` with the items of a `debug`, but for the log, and the same words over every
-    // other tree that looks the same to them.
+    // What other calls give the same: `play` with the items of a `debug`, but for the log; and the same words over every
+    // other tree that replies the same to what is asked of it and, where a program runs, is the same beneath its root.
     ensures same { GivesTheSame (call T.Tree O.Sink E.Sink words.now tree.old out.old err.old tree.new out.new err.new result) }
 
     // Where the tree and the sinks are guaranteed to take what the verdict asks of them, none of them fails.
     ensures guaranteed { FailsNotWhereGuaranteed (call T.Tree O.Sink E.Sink words.now tree.old out.old err.old tree.new out.new err.new result) }
 
     // No call of `create` that the tree refused is ignored: a tree that is exact counts none, but for the one for which the call
-    // is refused; where a program runs, its own are not spoken of.
-    ensures refusals { PassesNoneOver (request (map string_bytes words.now)) (T.state tree.old) (T.state tree.new) result }
+    // is refused, whose path is the one in its line; where a program has a root, its own are not spoken of.
+    ensures refusals { PassesNoneOver (request (map string_bytes words.now)) (T.state tree.old) (T.state tree.new) (E.state err.old) (E.state err.new) result }
 {
-    a_source_looks_at_its_files_alone();
     let mut host = Host { tree, out, err };
     status_of(alloc, words, &mut host)
 }

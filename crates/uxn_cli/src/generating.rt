@@ -6,9 +6,10 @@ ghost use Rattle.uxn_cli.specs.Prepared.{AreNew};
 ghost use Rattle.uxn_cli.specs.Workload.{HasRunAlone, lone_trace, run_summary, workload_text};
 ghost use Rattle.tal_rom.specs.Assembly.{IsAssembled, first_fault};
 ghost use Rattle.tal_assembly.specs.Sources.{own_by};
-ghost use Rattle.uxn_task_files.specs.Accepted.{validated_source};
+ghost use Rattle.uxn_inquiry.specs.Inquires.{Says};
+ghost use Rattle.uxn_inquiry.specs.Inquiry.{result_as};
+ghost use Rattle.uxn_task_files.specs.declared.refusal.Refusal.TheVariants.{Faulty};
 ghost use Rattle.uxn_cli.specs.Verdict.{accepted_summary};
-ghost use Rattle.uxn_task_files.specs.FollowsDefinition.{FollowsDefinition};
 
 use super::host::Host;
 use super::machine::{Machine, new_machine};
@@ -19,9 +20,9 @@ use tal_assembly::SourceFault;
 use tal_rom::{Assembly, assemble};
 use tal_words::AsmStop;
 use uxn_arguments::Task;
+use uxn_inquiry::Halt;
 use uxn_io::MemTree;
-use uxn_opcodes::Stop;
-use uxn_task_files::{Halt, Refusal, validate_script};
+use uxn_task_files::{Refusal, validate_script};
 use uxn_workload::{GrowingSink, Ran, source};
 use vector_loop::{NoWatch, Outputs};
 
@@ -102,8 +103,8 @@ fn run_workload(
 }
 
 /// The assembly of a workload.
-fn assembly_of(alloc: Global, source: &[u8]) -> Result<Assembly, Halt>
-    ensures follows { FollowsDefinition (λ _. record { text = source.now; paths = [] }) result (validated_source (own_by source.now (first_fault source.now))) }
+fn assembly_of(alloc: Global, source: &[u8]) -> Result<Assembly, Halt<Refusal>>
+    ensures says { Says (λ _. record { text = source.now; paths = [] }) (result_as Faulty (own_by source.now (first_fault source.now))) result }
     ensures assembled { IfOk result (λ assembly. IsAssembled source.now (Ok assembly)) }
 {
     match assemble(alloc, source) {
@@ -112,17 +113,18 @@ fn assembly_of(alloc: Global, source: &[u8]) -> Result<Assembly, Halt>
             let own = SourceFault::own(alloc, source, &fault)?;
             Err(Halt::Refused(Refusal::Faulty(own)))
         }
-        Err(AsmStop::NoMemory) => Err(Halt::Stopped(Stop::NoMemory)),
+        Err(AsmStop::NoMemory) => Err(Halt::NoMemory),
     }
 }
 
 /// The summary of a workload.
 #[inline(never)]
-pub fn summarize(alloc: Global, task: &Task) -> Result<Vec<u8>, Halt>
-    ensures { FollowsDefinition (λ text. text.items) result (accepted_summary task.now.count) }
+pub fn summarize(alloc: Global, task: &Task) -> Result<Vec<u8>, Halt<Refusal>>
+    ensures { Says (λ text. text.items) (accepted_summary task.now.count) result }
 {
     let text = source(alloc, task.count)?;
     let assembly = assembly_of(alloc, &text)?;
     let script = validate_script(alloc, SCRIPT)?;
-    Ok(run_workload(alloc, &text, assembly.rom(), script)?)
+    let summary = run_workload(alloc, &text, assembly.rom(), script)?;
+    Ok(summary)
 }

@@ -5,11 +5,13 @@ ghost use Rattle.setup_lines.specs.Limits.{AreTurns};
 ghost use Rattle.uxn_task_files.specs.Puts.{Puts};
 ghost use Rattle.uxn_cli.specs.Joined.{IsRunnable, LineGoesOn, LineHasDone, job_of_joined, joined_plan};
 ghost use Rattle.uxn_cli.specs.Outcome.{line_bytes, line_exit};
-ghost use Rattle.uxn_cli.specs.Prepared.{ReadsPlan};
+ghost use Rattle.uxn_cli.specs.Verdict.{line_plan_of};
+ghost use Rattle.uxn_inquiry.specs.Inquires.{Inquires};
 
 use setup_lines::Turns;
 use std::alloc::Global;
-use uxn_arguments::{Command, Task};
+use uxn_arguments::Task;
+use uxn_inquiry::Halt as InquiryHalt;
 use uxn_io_traits::{Failed, Sink, Tree};
 use uxn_line::{Line, are_of_console};
 use uxn_opcodes::Stop;
@@ -17,14 +19,17 @@ use uxn_task_files::{Halt, LineInputs, Refusal, read_machines};
 
 /// The machines of the setup of a task, where they can be run in a line.
 #[inline(never)]
-pub fn join_up<T: Tree>(alloc: Global, task: &Task, tree: &mut T) -> Result<LineInputs, Halt>
-    requires { task.now.command ≡ Command.Line }
-    ensures joins { ReadsPlan joined_plan task.now (T.state tree.old) (T.state tree.new) result }
+pub fn join_up<T: Tree>(
+    alloc: Global,
+    task: &Task,
+    tree: &mut T,
+) -> Result<LineInputs, InquiryHalt<Refusal>>
+    ensures joins { Inquires joined_plan (line_plan_of task.now) (T.state tree.old) (T.state tree.new) result }
     ensures runs { IfOk result IsRunnable }
 {
     let inputs = read_machines(alloc, task, tree)?;
     if !are_of_console(inputs.script.events()) {
-        return Err(Halt::Refused(Refusal::OtherEvents));
+        return Err(InquiryHalt::Refused(Refusal::OtherEvents));
     }
     Ok(inputs)
 }

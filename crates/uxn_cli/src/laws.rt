@@ -1,20 +1,17 @@
 //! Laws that tie what stands below to one another.
-ghost use Rattle.std.specs.Prelude.{◌≡◌, ℕ, ◌<◌, List, Ok};
-ghost use Rattle.tal_words.specs.Opcodes.{name_of_op};
-ghost use Rattle.uxn_opcodes.specs.Table.{op_of};
-ghost use Rattle.uxn_cli.specs.OpcodeNames.{row_name};
+ghost use Rattle.std.specs.Prelude.{◌≡◌, ℕ, List, Ok, Err, Result};
 ghost use Rattle.uxn_io_traits.specs.Files.{Nodes};
 ghost use Rattle.uxn_task_files.specs.Request.{request};
 ghost use Rattle.uxn_cli.specs.Verdict.{Work};
 ghost use Rattle.uxn_cli.specs.Causes.{tree_verdict};
+ghost use Rattle.uxn_inquiry.specs.Along.{AgreeAlong};
+ghost use Rattle.uxn_inquiry.specs.Inquiry.{answer_in};
+ghost use Rattle.uxn_arguments.specs.declared.task.Task.{Task};
+ghost use Rattle.uxn_task_files.specs.Accepted.{source_of};
+ghost use Rattle.uxn_task_files.specs.declared.refusal.Refusal.{Refusal};
+ghost use Rattle.uxn_cli.specs.Isolation.{IsOfSource};
+ghost use Rattle.uxn_cli.specs.Verdict.{inquiry_of};
 ghost use Rattle.uxn_cli.specs.Observation.{OnlyWatches, HaveSameItems, ShowsWhatPlayDoes};
-
-/// The name that a disassembly has for an instruction byte is that of the row by which the machine runs
-/// it, with the letters of its mode, for each of the 256 bytes.
-#[tactic(auto, using(crate::proofs::OpcodeLemmas::names_agree))]
-pub fn names_are_those_of_rows()
-    ensures { (code : ℕ) → code < 256 → name_of_op code ≡ row_name (op_of code) code }
-{}
 
 /// A run under the debugger has the status of the run without it, and its changes but for the log, whose file is
 /// made first and gets its bytes last.
@@ -29,4 +26,19 @@ pub fn the_debugger_only_watches()
 pub fn debug_shows_what_play_does()
     ensures { (nodes : Nodes) (words others : List (List ℕ)) (work : Work) → HaveSameItems words others → tree_verdict nodes (request words) ≡ Ok work
         → ShowsWhatPlayDoes nodes (request words) (request others) work }
+{}
+
+/// What a call finds before it changes anything depends on what it asks alone: over two trees that reply the same to each of its
+/// questions it is the same refusal, or the same work.
+pub fn a_verdict_depends_on_what_is_asked()
+    ensures { (requested : Result Task Refusal) (nodes other : Nodes) → AgreeAlong nodes other (inquiry_of requested)
+        → tree_verdict nodes requested ≡ tree_verdict other requested }
+{}
+
+/// A source that is refused depends on its own bytes, and on the files that are read before its fault: over every other tree that is
+/// the same in these the call is refused so, whatever else is there.
+pub fn a_refused_source_is_alone()
+    ensures { (task : Task) (nodes other : Nodes) (refusal : Refusal) → IsOfSource task.command task.rom
+        → answer_in nodes (source_of task.file) ≡ Err refusal → AgreeAlong nodes other (source_of task.file)
+        → tree_verdict other (Ok task) ≡ Err refusal }
 {}

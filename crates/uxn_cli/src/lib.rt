@@ -14,4 +14,7 @@ mod running;
 mod work;
 
 pub use entry::uxn;
-pub use laws::{debug_shows_what_play_does, names_are_those_of_rows, the_debugger_only_watches};
+pub use laws::{
+    a_refused_source_is_alone, a_verdict_depends_on_what_is_asked, debug_shows_what_play_does,
+    the_debugger_only_watches,
+};

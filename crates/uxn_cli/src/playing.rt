@@ -1,18 +1,15 @@
 //! What `play` and `debug` do: a program is run over a script, and a debugger may watch it.
-ghost use Rattle.std.specs.Prelude.{◌≡◌, ◌≤◌, [], Ok, IfOk, IfSome, IsSome, length};
-ghost use Rattle.uxn_io_traits.specs.Ended.{TreeLooked};
+ghost use Rattle.std.specs.Prelude.{◌≡◌, ◌≤◌, [], None, Ok, IfOk, IfSome, IsSome, length};
+ghost use Rattle.uxn_io_traits.specs.Ended.{RefusesNone};
 ghost use Rattle.uxn_memory.specs.Bytes.{largest_rom};
 ghost use Rattle.uxn_arguments.specs.Places.{HasApartOutputs};
 ghost use Rattle.uxn_arguments.specs.Tasks.{role_path};
 ghost use Rattle.vector_loop.specs.Outputs.{IsOutput};
-ghost use Rattle.uxn_task_files.specs.Blame.{halted_by_tree};
 ghost use Rattle.uxn_task_files.specs.Accepted.{Loaded};
-ghost use Rattle.uxn_cli.specs.Verdict.{command_debugging, debugging};
+ghost use Rattle.uxn_cli.specs.Verdict.{command_debugging, debugging, run_plan, run_plan_of};
 ghost use Rattle.uxn_cli.specs.Outside.{DoesWork, SameHost, outside_of, state_of_host};
-ghost use Rattle.uxn_cli.specs.Prepared.{Prepares, IsReadyRun, AreNew, session_debugging, prepared_debugging};
-ghost use Rattle.uxn_task_files.specs.Views.{ReadsInputs, RunsMachine};
-ghost use Rattle.uxn_task_files.specs.Accepted.{run_given};
-ghost use Rattle.uxn_io_traits.specs.State.{TreeState};
+ghost use Rattle.uxn_cli.specs.Prepared.{IsReadyRun, IsPlanned, AreNew, session_debugging, prepared_debugging, prepared_plan};
+ghost use Rattle.uxn_inquiry.specs.Inquires.{Inquires};
 ghost use Rattle.uxn_task_files.specs.Held.{model_of_inputs, model_of_debug_labels, model_of_program};
 ghost use Rattle.uxn_cli.specs.RunsFromRoot.{RunsFromRoot, RunFiles, task_trace, logged_changes};
 
@@ -25,10 +22,11 @@ use std::alloc::{AllocError, Global};
 use tal_words::Label;
 use uxn_arguments::{Command, Role, Task};
 use uxn_debugger::Debugger;
+use uxn_inquiry::Halt as InquiryHalt;
 use uxn_io_traits::{Sink, Tree};
 use uxn_opcodes::Stop;
 use uxn_task_files::{
-    Halt, Output, Program, RunInputs, empty_outputs, labels_of, make_outputs, read_run,
+    Halt, Output, Program, Refusal, RunInputs, empty_outputs, labels_of, make_outputs, read_run,
 };
 use uxn_undo::Undo;
 use vector_loop::NoWatch;
@@ -76,10 +74,9 @@ fn open_session(
 
 /// What a run has before it begins, of the inputs that were read.
 fn ready(alloc: Global, task: &Task, inputs: RunInputs) -> Result<Prepared, AllocError>
-    requires runs { RunsMachine task.now.command }
     requires room { length (model_of_program inputs.program).rom ≤ largest_rom }
-    ensures { (before now : TreeState) → ReadsInputs model_of_inputs task.now (run_given task.now.command task.now) before now (Ok inputs)
-        → IfOk result (IsReadyRun before.contents task.now) }
+    ensures ready { IfOk result (IsReadyRun task.now) }
+    ensures plan { IfOk result (λ prepared. prepared_plan task.now prepared ≡ run_plan task.now.command task.now (model_of_inputs inputs)) }
 {
     let RunInputs {
         program,
@@ -101,13 +98,17 @@ fn ready(alloc: Global, task: &Task, inputs: RunInputs) -> Result<Prepared, Allo
 
 /// The machine that is requested, and what a debugger does with its run.
 #[inline(never)]
-pub fn prepare<T: Tree>(alloc: Global, task: &Task, tree: &mut T) -> Result<Prepared, Halt>
-    requires { RunsMachine task.now.command }
-    ensures prepares { Prepares (T.state tree.old).contents task.now result }
-    ensures looked { TreeLooked (halted_by_tree result) (T.state tree.old) (T.state tree.new) }
+pub fn prepare<T: Tree>(
+    alloc: Global,
+    task: &Task,
+    tree: &mut T,
+) -> Result<Prepared, InquiryHalt<Refusal>>
+    ensures prepares { Inquires (prepared_plan task.now) (run_plan_of task.now.command task.now) (T.state tree.old) (T.state tree.new) result }
+    ensures ready { IfOk result (IsReadyRun task.now) }
 {
     let inputs = read_run(alloc, task, tree)?;
-    Ok(ready(alloc, task, inputs)?)
+    let prepared = ready(alloc, task, inputs)?;
+    Ok(prepared)
 }
 
 /// Runs a machine that is ready, under its debugger where it has one, and writes the report and the log.
@@ -126,6 +127,7 @@ fn run_prepared<T: Tree, O: Sink, E: Sink>(
     ensures runs { RunsFromRoot (role_path task.now Role.Root) (task_trace task.now prepared.machine)
         (logged_changes task.now prepared.machine (prepared_debugging task.now prepared)) (IsSome (prepared_debugging task.now prepared))
         (outside_of T.Tree O.Sink E.Sink host.old) (outside_of T.Tree O.Sink E.Sink host.new) result }
+    ensures refusals { role_path task.now Role.Root ≡ None → RefusesNone (T.state host.old.tree.now) (T.state host.new.tree.now) }
     ensures same { SameHost host.old host.new }
 {
     let Prepared {
@@ -157,7 +159,8 @@ pub fn run<T: Tree, O: Sink, E: Sink>(
     prepared: Prepared,
     host: &mut Host<'_, '_, '_, T, O, E>,
 ) -> Result<u8, Halt>
-    requires ready { IsReadyRun (T.state host.old.tree.now).contents task.now prepared }
+    requires planned { IsPlanned (T.state host.old.tree.now).contents task.now (prepared_plan task.now prepared) }
+    requires ready { IsReadyRun task.now prepared }
     requires apart { HasApartOutputs task.now }
     requires budget { 1 ≤ task.now.budget }
     ensures does { DoesWork (Ok task.now) (state_of_host T.Tree O.Sink E.Sink host.old) (state_of_host T.Tree O.Sink E.Sink host.new) result }

@@ -1,5 +1,5 @@
 //! The run of a machine, and what is written after it.
-ghost use Rattle.std.specs.Prelude.{◌≡◌, ◌≤◌, OnOk, IfSome, is_err};
+ghost use Rattle.std.specs.Prelude.{◌≡◌, ◌≤◌, None, OnOk, IfSome, is_err};
 ghost use Rattle.uxn_cli.specs.Outside.{SameHost, outside_of};
 ghost use Rattle.varvara_bus.specs.Bus.{IsFileWhereKnown};
 ghost use Rattle.vector_loop.specs.Outputs.{OutputsThere};
@@ -7,7 +7,7 @@ ghost use Rattle.vector_loop.specs.Watch.{MayRefuse};
 ghost use Rattle.uxn_task_files.specs.World.{requested_output};
 ghost use Rattle.uxn_task_files.specs.Writing.{filling_all};
 ghost use Rattle.uxn_cli.specs.Prepared.{AreNew};
-ghost use Rattle.uxn_io_traits.specs.Ended.{TreeEnded};
+ghost use Rattle.uxn_io_traits.specs.Ended.{RefusesNone, TreeEnded};
 ghost use Rattle.uxn_cli.specs.RunsFromRoot.{AtRootView, RunsFromRoot, RunFiles, WasShown, task_settings, machine_trace, task_trace, reported_changes};
 ghost use Rattle.uxn_arguments.specs.Tasks.{role_path};
 
@@ -58,6 +58,7 @@ pub fn run_machine<T: Tree, O: Sink, E: Sink, W: Watcher>(
     ensures watcher { AtRootView machine.old.devices.root (T.state host.old.tree.now).contents (λ root_view. OnOk result
         (WasShown W.shown W.ended (W.held watcher.old)
         (machine_trace settings.now machine.old root_view) (W.held watcher.new))) }
+    ensures refusals { machine.old.devices.root ≡ None → RefusesNone (T.state host.old.tree.now) (T.state host.new.tree.now) }
     ensures same { SameHost host.old host.new }
 {
     let mut bus = Bus::new(&mut machine.devices, host.tree, host.out, host.err);
@@ -78,7 +79,8 @@ pub fn run_machine<T: Tree, O: Sink, E: Sink, W: Watcher>(
 /// Writes a text to the end of a file, where one is requested.
 pub fn write_text<T: Tree>(path: &Option<Path>, text: &[u8], tree: &mut T) -> Result<(), Failed>
     requires { IfSome path.now (IsFileWhereKnown (T.state tree.old).contents) }
-    ensures { TreeEnded (filling_all (requested_output path.now text.now)) (is_err result) (T.state tree.old) (T.state tree.new) }
+    ensures ended { TreeEnded (filling_all (requested_output path.now text.now)) (is_err result) (T.state tree.old) (T.state tree.new) }
+    ensures refused { RefusesNone (T.state tree.old) (T.state tree.new) }
 {
     match path {
         Some(path) => append_all(tree, path, text),
@@ -114,6 +116,7 @@ pub fn run_made<T: Tree, O: Sink, E: Sink, W: Watcher>(
     ensures watcher { AtRootView (role_path task.now Role.Root) (T.state host.old.tree.now).contents (λ root_view. OnOk result
         (WasShown W.shown W.ended (W.held watcher.old)
         (task_trace task.now machine root_view) (W.held watcher.new))) }
+    ensures refusals { role_path task.now Role.Root ≡ None → RefusesNone (T.state host.old.tree.now) (T.state host.new.tree.now) }
     ensures same { SameHost host.old host.new }
 {
     let mut machine = machine;

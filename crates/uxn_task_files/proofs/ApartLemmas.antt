@@ -1,9 +1,9 @@
 -- Outputs that do not clash are made and filled one after the other.
-use Rattle.uxn_task_files.proofs.Common.{All, Bool, IfSome, IsSome, List, None, Option, Some, [], ap, arith, count_by, false, find, length, not}
-use Rattle.uxn_task_files.proofs.Common.{option_map, refl, sym, true, true≢false, unwrap_or, ℕ, ◌&&◌, ◌∙◌, ◌∷◌, ◌≡◌, ◌≤◌, common_steps, All-cons}
-use Rattle.uxn_task_files.proofs.Common.{All-head, All-nil, All-tail, bytes_eq-Decides, list_any, can_create, with_appended, with_created, File, Node}
-use Rattle.uxn_task_files.proofs.Common.{Nodes, file_bytes_at, bytes_of, file_at, has_parent, get_put, put_elsewhere, put_other, same_or_other, clashes, meets}
-use Rattle.uxn_task_files.proofs.Common.{AreFiles, CanFill, CanMake, Text, text_paths, with_empty}
+use Rattle.uxn_task_files.proofs.Common.{Bool, IfSome, IsSome, List, None, Option, Some, [], arith, count_by, false, find, not}
+use Rattle.uxn_task_files.proofs.Common.{option_map, refl, sym, true, true≢false, ℕ, ◌&&◌, ◌∙◌, ◌∷◌, ◌≡◌, ◌≤◌, common_steps, All-cons}
+use Rattle.uxn_task_files.proofs.Common.{All-nil, bytes_eq-Decides, list_any, can_create, with_created, File, Node}
+use Rattle.uxn_task_files.proofs.Common.{Nodes, file_at, has_parent, get_put, put_elsewhere, put_other, same_or_other, clashes, meets}
+use Rattle.uxn_task_files.proofs.Common.{AreFiles, CanMake, Text, text_paths, with_empty}
 use Rattle.uxn_io_traits.specs.PathLaws.{parent_under}
 pub use Rattle.uxn_task_files.proofs.PlaceLemmas.{no_clash-fewer}
 use Rattle.uxn_task_files.proofs.PlaceLemmas.{count-first, meets_parts, clash_parts}
@@ -116,35 +116,3 @@ pub made_files : (texts : List Text) (before now : Option Nodes) → now ≡ opt
     → IfSome now (AreFiles texts)
 made_files texts None now e can = rw e tt
 made_files texts (Some nodes) now e can = rw e (are_files texts (with_empty texts nodes) (are_made texts nodes can))
-
--- ---- so they can be filled one after the other
-
-made_rest : (path bytes : List ℕ) (texts : List Text) (nodes : Nodes) → avoids path (text_paths texts) ≡ true → AreMade texts nodes
-    → AreMade texts (with_appended path bytes nodes)
-made_rest path [] texts nodes avoid made = made
-made_rest path bytes [] nodes avoid made = tt
-made_rest path (byte ∷ bytes) (text ∷ texts) nodes avoid made = (
-  put_elsewhere nodes path text.path _ (not_same text.path path (grind (arith, common_steps))) ∙ made.0,
-  made_rest path (byte ∷ bytes) texts nodes (grind (arith, common_steps)) made.1,
-)
-
-can_fill : (limit : ℕ) (texts : List Text) (nodes : Nodes) → are_apart (text_paths texts) ≡ true → AreMade texts nodes
-    → All (λ t. length t.bytes ≤ limit) texts → CanFill limit texts nodes
-unfolding CanFill
-can_fill limit [] nodes apart made small = tt
-can_fill limit (text ∷ texts) nodes apart made small =
-    let none : file_bytes_at nodes text.path ≡ [] = ap (λ (o : Option Node). unwrap_or (bytes_of o) []) made.0 in
-    let one = All-head (λ (t : Text). length t.bytes ≤ limit) text texts small in
-    let rest = made_rest text.path text.bytes texts nodes (grind (arith, common_steps)) made.1 in (
-      rw none (omega (arith, one)),
-      can_fill limit texts (with_appended text.path text.bytes nodes) (grind (arith, common_steps)) rest
-          (All-tail (λ (t : Text). length t.bytes ≤ limit) text texts small),
-    )
-
-pub fills_all : (inputs : List (List ℕ)) (texts : List Text) (nodes : Nodes) (limit : ℕ)
-    → find (clashes inputs (text_paths texts)) (text_paths texts) ≡ None
-    → None ≡ find (λ path. not (can_create nodes path)) (text_paths texts) → All (λ t. length t.bytes ≤ limit) texts
-    → CanFill limit texts (with_empty texts nodes)
-fills_all inputs texts nodes limit apart can small =
-    can_fill limit texts (with_empty texts nodes) (apart_from inputs (text_paths texts) (text_paths texts) apart (λ q. omega arith))
-    (are_made texts nodes (makes_all inputs texts nodes apart can)) small

@@ -10,10 +10,6 @@ pub use Rattle.std.specs.Global.{Vec}
 pub use Rattle.std.specs.List.{AllByRecursion, list_any}
 pub use Rattle.play_script.specs.Scripts.{ScriptView}
 pub use Rattle.setup_lines.specs.Setups.{SetupView}
-pub use Rattle.tal_include.specs.Answers.{known_file_bytes, known_reading}
-pub use Rattle.tal_include.specs.Splice.{Reading}
-pub use Rattle.tal_assembly.specs.Answers.{Comes, SourceView, has_failed}
-pub use Rattle.tal_assembly.specs.Sources.{Sourced, sourced}
 pub use Rattle.tal_words.specs.declared.name.Label.{Label}
 pub use Rattle.uxn_io_traits.specs.ByteList.{ByteList}
 pub use Rattle.uxn_io_traits.specs.Changes.{can_create, with_appended, with_created}
@@ -33,25 +29,27 @@ pub use Rattle.uxn_arguments.specs.Tasks.{role_path}
 pub use Rattle.uxn_arguments.specs.declared.task.Task.{Task}
 pub use Rattle.uxn_arguments.specs.declared.words.Command.{Command}
 pub use Rattle.uxn_arguments.specs.declared.words.Command.TheVariants.{Assemble, Debug, Disassemble, Generate, Line, Play}
-pub use Rattle.uxn_task_files.specs.Accepted.{Machines, SourceFiles, accepted_machine, accepted_machines, accepted_program, accepted_roms}
-pub use Rattle.uxn_task_files.specs.Accepted.{accepted_script, accepted_source, accepted_symbols, disassembly_given, validated_script, validated_source}
-pub use Rattle.uxn_task_files.specs.Accepted.{machines_given, run_given, source_files, output_texts, written_files}
-pub use Rattle.uxn_task_files.specs.Blame.{halt_of_source, halted_by_tree}
-pub use Rattle.uxn_task_files.specs.Held.{model_of_files, model_of_inputs, model_of_labels, model_of_machines, model_of_program, model_of_source}
-pub use Rattle.uxn_task_files.specs.Inputs.{InputFile, NamedFiles, long_refusal, no_files, kind_text}
-pub use Rattle.uxn_task_files.specs.Made.{AreApart, AreFree, EndsMaking, HalfMade, HalfWrote, IsUnmade, LooksAt, Made, Refuses, Takes, WroteTexts, first_unmade}
 pub use Rattle.uxn_task_files.specs.Outputs.{paths_of, observed_text, observed_texts}
-pub use Rattle.uxn_task_files.specs.Reading.{ReadsInput}
-pub use Rattle.uxn_task_files.specs.Request.{then_requests, apart, refused}
 unfoldable pub use Rattle.uxn_task_files.specs.Request.{request}
-pub use Rattle.uxn_task_files.specs.Setup.{accepted_setup}
-pub use Rattle.uxn_task_files.specs.Views.{ReadsInputs, RunsMachine, InputsView, bytes_observed, command_files_observed, file_observed, input_file, input_observed, inputs_observed}
-pub use Rattle.uxn_task_files.specs.Views.{main_file_observed, named_files_observed, program_observed, source_observed, sources_observed, symbols_input, view_of}
-pub use Rattle.uxn_task_files.specs.World.{AreFiles, Text, text_paths, with_empty}
-unfoldable pub use Rattle.uxn_task_files.specs.World.{CanFill, CanMake}
 pub use Rattle.uxn_task_files.specs.Writing.{Did, creating_all, filling_all}
 unfoldable pub use Rattle.uxn_task_files.specs.Writing.{writing}
 pub use Rattle.uxn_task_files.specs.declared.outputs.Output.{Output}
 pub use Rattle.uxn_task_files.specs.declared.refusal.Halt.{Halt}
 pub use Rattle.uxn_task_files.specs.declared.refusal.Halt.TheVariants.{Refused, Stopped}
 pub use Rattle.uxn_task_files.specs.declared.refusal.Refusal.{Refusal}
+pub use Rattle.tal_assembly.specs.Sources.{Sourced, sourced_of}
+unfoldable pub use Rattle.tal_assembly.specs.Sources.{source_inquiry}
+pub use Rattle.uxn_inquiry.specs.Inquiry.{Inquiry, Answer, and_then, gather, answer_in}
+pub use Rattle.uxn_inquiry.specs.Gives.{CanAnswer, Gives}
+pub use Rattle.uxn_inquiry.specs.Inquires.{Inquires, Says}
+pub use Rattle.uxn_inquiry.specs.Leads.{Leads}
+pub use Rattle.uxn_inquiry.specs.Laws.{inquires-stop, inquires-more, inquires-last, inquires-as, leads-stop, leads-more, leads-said, gather-stop, gather-more, gather-end}
+pub use Rattle.uxn_task_files.specs.Accepted.{Machines, SourceFiles, output_texts}
+unfoldable pub use Rattle.uxn_task_files.specs.Accepted.{source_of, program_of, symbols_of, script_of, commands_of, setup_of, machine_of, run_of, files_of, disassembly_of, machines_in, machines_of, free_output}
+pub use Rattle.uxn_task_files.specs.Accepted.{free_outputs, said_output}
+pub use Rattle.uxn_task_files.specs.Inputs.{long_refusal, kind_text}
+unfoldable pub use Rattle.uxn_task_files.specs.Inputs.{text_of, requested_text}
+pub use Rattle.uxn_task_files.specs.Made.{AreApart, AreFree, EndsMaking, HalfDone, IsUnmade, Made, Refuses, WroteTexts}
+pub use Rattle.uxn_task_files.specs.World.{AreFiles, Text, text_paths, with_empty}
+unfoldable pub use Rattle.uxn_task_files.specs.World.{CanMake}
+pub use Rattle.uxn_task_files.specs.Request.{apart, refused, then_requests}

@@ -1,14 +1,13 @@
 -- What calls of a tree did, one after the other.
-use Rattle.uxn_task_files.proofs.Common.{Bool, IfSome, IsSome, List, None, Option, Some, [], ap, arith, false, if◌then◌else◌, refl, subst, sym, true}
+use Rattle.uxn_task_files.proofs.Common.{Bool, IfSome, IsSome, List, None, Option, Some, [], ap, arith, false, refl, subst, sym, true}
 use Rattle.uxn_task_files.proofs.Common.{true≢false, ℕ, ◌++◌, ◌∙◌, ◌∷◌, ◌≡◌, common_steps, All-head, All-tail, can_create, IsLeft, TreeEnded, TreeLooked}
 use Rattle.uxn_task_files.proofs.Common.{appending, contents_after, looked-ended, looked-nothing, contents_after-map, contents_after-none, tree-first, tree-then, Nodes}
 use Rattle.uxn_task_files.proofs.Common.{file_at, Change, Creates, TreeState, paths_of, observed_text, observed_texts, AreFiles, CanMake, Text, Did, creating_all}
 use Rattle.uxn_task_files.proofs.Common.{filling_all, writing, Output}
 use Rattle.uxn_io_traits.specs.AppendingLaws.{contents_after-file}
 use Rattle.uxn_io_traits.specs.CallLaws.{ended-as, contents_after-creating, unknown-as}
-use Rattle.uxn_io_traits.specs.Ended.{Refused, TakesChanges, creating as creating_at}
+use Rattle.uxn_io_traits.specs.Ended.{Refused, TakesChanges, creating as creating_at, refused_also}
 use Rattle.uxn_io_traits.specs.FaultLaws.{counted-same}
-use Rattle.uxn_io_traits.specs.Faults.{one_more}
 use Rattle.uxn_task_files.proofs.OutputLemmas.{observed_paths, keep_files}
 
 -- a tree of unknown contents tells nothing; one of unknown contents in the end told nothing before
@@ -32,30 +31,30 @@ unknown-done changes now none = record {
     go (Some nodes) e takes = absurd cc
 
 -- refusals that are counted, after calls that were not refused
-pub refused-then : (refused : Bool) (a b c : TreeState) → Refused false a b → b.tally.exact ≡ a.tally.exact → Refused refused b c
-    → Refused refused a c
-refused-then refused a b c p promise q = λ exact. q (promise ∙ exact) ∙ ap (λ (n : ℕ). if refused then one_more n else n) (p exact)
+pub refused-then : (file : Option (List ℕ)) (a b c : TreeState) → Refused None a b → b.tally.exact ≡ a.tally.exact → Refused file b c
+    → Refused file a c
+refused-then file a b c p promise q = λ exact. q (promise ∙ exact) ∙ ap (refused_also file) (p exact)
 
 -- ---- calls one after the other
 
-pub did-nothing : (now : TreeState) → Did [] false false now now
+pub did-nothing : (now : TreeState) → Did [] false None now now
 did-nothing now = record { done = looked-ended false now now (looked-nothing now); refusals = λ exact. refl }
 
-pub did-then : (first more : List Change) (failed refused : Bool) (a b c : TreeState) → Did first false false a b → Did more failed refused b c
+pub did-then : (first more : List Change) (failed : Bool) (refused : Option (List ℕ)) (a b c : TreeState) → Did first false None a b → Did more failed refused b c
     → Did (first ++ more) failed refused a c
 did-then first more failed refused a b c p q = record {
   done = tree-then first more failed a b c p.done q.done;
   refusals = refused-then refused a b c p.refusals p.done.counted.promise q.refusals;
 }
 
-pub did-first : (first more : List Change) (refused : Bool) (a b : TreeState) → Did first true refused a b → Did (first ++ more) true refused a b
+pub did-first : (first more : List Change) (refused : Option (List ℕ)) (a b : TreeState) → Did first true refused a b → Did (first ++ more) true refused a b
 did-first first more refused a b p = record { done = tree-first first more a b p.done; refusals = p.refusals }
 
-pub did-unknown : (first more : List Change) (refused : Bool) (a b : TreeState) → Did first false refused a b → b.contents ≡ None
+pub did-unknown : (first more : List Change) (refused : Option (List ℕ)) (a b : TreeState) → Did first false refused a b → b.contents ≡ None
     → Did (first ++ more) false refused a b
 did-unknown first more refused a b p none = record { done = tree-then first more false a b b p.done (unknown-done more b none); refusals = p.refusals }
 
-pub did-looked : (changes : List Change) (failed refused : Bool) (a b c : TreeState) → TreeLooked false a b → Did changes failed refused b c
+pub did-looked : (changes : List Change) (failed : Bool) (refused : Option (List ℕ)) (a b c : TreeState) → TreeLooked false a b → Did changes failed refused b c
     → Did changes failed refused a c
 did-looked changes failed refused a b c p q = did-then [] changes failed refused a b c (record { done = looked-ended false a b p; refusals = p.refusals }) q
 
@@ -67,7 +66,7 @@ creates outputs = creating_all (paths_of outputs)
 abbrev pub fills : List Output → List Change
 fills outputs = filling_all (observed_texts outputs)
 
-pub as-writing : (outputs : List Output) (failed refused : Bool) (a b : TreeState) → Did (creates outputs ++ fills outputs) failed refused a b
+pub as-writing : (outputs : List Output) (failed : Bool) (refused : Option (List ℕ)) (a b : TreeState) → Did (creates outputs ++ fills outputs) failed refused a b
     → Did (writing (observed_texts outputs)) failed refused a b
 unfolding writing
 as-writing outputs failed refused a b did = subst (λ ps. Did (creating_all ps ++ fills outputs) failed refused a b) (sym (observed_paths outputs)) did
@@ -78,12 +77,12 @@ module _ (output : Output) (outputs : List Output) (here now : TreeState) (can :
   unfolding CanMake
   one-made failed ended = ended-as _ _ failed here now (grind (arith, common_steps)) ended
 
-  pub make-failed : TreeEnded (creating_at here.contents output.path) true here now → Refused false here now
-      → Did (creates (output ∷ outputs)) true false here now
-  make-failed ended refused = did-first (creating_all (output.path ∷ [])) (creates outputs) false here now (record { done = one-made true ended; refusals = refused })
+  pub make-failed : TreeEnded (creating_at here.contents output.path) true here now → Refused None here now
+      → Did (creates (output ∷ outputs)) true None here now
+  make-failed ended refused = did-first (creating_all (output.path ∷ [])) (creates outputs) None here now (record { done = one-made true ended; refusals = refused })
 
-  pub make-then : TreeEnded (creating_at here.contents output.path) false here now → Refused false here now
-      → (failed refused : Bool) (last : TreeState) → Did (creates outputs) failed refused now last
+  pub make-then : TreeEnded (creating_at here.contents output.path) false here now → Refused None here now
+      → (failed : Bool) (refused : Option (List ℕ)) (last : TreeState) → Did (creates outputs) failed refused now last
       → Did (creates (output ∷ outputs)) failed refused here last
   make-then ended none failed refused last did =
       did-then (creating_all (output.path ∷ [])) (creates outputs) failed refused here now last (record { done = one-made false ended; refusals = none }) did
@@ -97,8 +96,8 @@ module _ (output : Output) (outputs : List Output) (here now : TreeState) (can :
   unfolding CanMake
   is-unknown answer = grind (arith, common_steps)
 
-  pub make-refused : TreeEnded (creating_at here.contents output.path) false here now → Refused true here now → here.contents ≡ None
-      → Did (creates (output ∷ outputs)) false true here now
+  pub make-refused : TreeEnded (creating_at here.contents output.path) false here now → Refused (Some output.path) here now → here.contents ≡ None
+      → Did (creates (output ∷ outputs)) false (Some output.path) here now
   make-refused ended refused none = record { done = unknown-as _ (Creates output.path) (creates outputs) false here now none ended; refusals = refused }
 
 -- the next file is filled

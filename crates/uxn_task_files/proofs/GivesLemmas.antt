@@ -1,65 +1,129 @@
 -- No refusal of an input is one that the words alone decide; and the files that are written out of a source are the outputs of a task.
-use Rattle.uxn_task_files.proofs.Common.{Err, List, Ok, Result, [], arith, map, rules, ℕ, ◌∷◌, ◌≡◌, common_steps, map-append, ScriptView, Sourced}
-use Rattle.uxn_task_files.proofs.Common.{command_outputs, Task, Command, Assemble, SourceFiles, accepted_roms, accepted_source, disassembly_given}
-use Rattle.uxn_task_files.proofs.Common.{validated_script, validated_source, machines_given, run_given, source_files, output_texts, InputFile, long_refusal}
-use Rattle.uxn_task_files.proofs.Common.{then_requests, InputsView, Text, text_paths, Refusal}
-use Rattle.play_script.specs.declared.script.ScriptKind.{ScriptKind}
+use Rattle.uxn_task_files.proofs.Common.{Err, List, Ok, Option, Some, None, Result, [], arith, map, ℕ, ◌∷◌, ◌++◌, ◌≡◌, common_steps, map-append, Bool, true, false}
+use Rattle.uxn_task_files.proofs.Common.{command_outputs, Task, Command, Assemble, SourceFiles, output_texts, Text, text_paths, Refusal, Label, Sourced}
+use Rattle.uxn_task_files.proofs.Common.{Inquiry, Answer, and_then, gather, free_outputs, SetupView}
+unfoldable use Rattle.uxn_task_files.proofs.Common.{text_of, requested_text, source_of, program_of, symbols_of, script_of, commands_of, setup_of, machine_of}
+unfoldable use Rattle.uxn_task_files.proofs.Common.{run_of, files_of, disassembly_of, machines_in, machines_of, free_output}
 use Rattle.tal_assembly.specs.declared.fault.SourceFault.{SourceFault}
+use Rattle.uxn_inquiry.specs.Along.{Always}
+use Rattle.uxn_inquiry.specs.Inquiry.{Ask, unless_refused, result_as}
+unfoldable use Rattle.uxn_task_files.proofs.Common.{source_inquiry}
+use Rattle.uxn_inquiry.specs.InquiryLaws.{always-bind}
 use Rattle.uxn_task_files.specs.Statuses.{reason_of, IsOfWords}
 use Rattle.uxn_task_files.specs.declared.inputs.InputKind.{InputKind}
+use Rattle.uxn_task_files.specs.declared.inputs.InputKind.TheVariants as kinds
+use Rattle.uxn_task_files.specs.declared.refusal.Refusal.TheVariants.{Faulty}
 
 -- a step gives a value of which this holds, or a refusal that the words alone do not decide
-abbrev pub Gives : {A : Type 0} → (A → Type 0) → Result A Refusal → Type 0
-Gives P (Ok value) = P value
-Gives P (Err refusal) = IsOfWords (reason_of refusal) → ⊥
+abbrev pub IsOfInputs : {A : Type 0} → (A → Type 0) → Result A Refusal → Type 0
+IsOfInputs P (Ok value) = P value
+IsOfInputs P (Err refusal) = IsOfWords (reason_of refusal) → ⊥
 
--- the same of a step after another
-pub gives-then : {A B : Type 0} (P : A → Type 0) (Q : B → Type 0) (said : Result A Refusal) (next : A → Result B Refusal)
-    → Gives P said → ((value : A) → P value → Gives Q (next value)) → Gives Q (then_requests said next)
-gives-then P Q said next given more = grind (arith, more)
+-- so does an inquiry, whatever is replied
+abbrev pub AsksFor : {A : Type 0} → (A → Type 0) → Inquiry (Result A Refusal) → Type 0
+AsksFor P inquiry = Always (IsOfInputs P) inquiry
 
--- what is written of an assembly are the outputs
-pub paths-output_texts : (task : Task) (source : List ℕ) → map (λ (t : Text). t.path) (output_texts task source) ≡ command_outputs Assemble task
-paths-output_texts task source = grind (arith, common_steps, map-append)
+pub asks-then : {A B : Type 0} (P : A → Type 0) (Q : B → Type 0) (inquiry : Inquiry (Result A Refusal)) (next : A → Inquiry (Result B Refusal))
+    → AsksFor P inquiry → ((value : A) → P value → AsksFor Q (next value)) → AsksFor Q (and_then inquiry next)
+asks-then {A} {B} P Q inquiry next given more = always-bind (IsOfInputs P) (IsOfInputs Q) inquiry (unless_refused next) given go
+  where
+    go : (said : Result A Refusal) → IsOfInputs P said → Always (IsOfInputs Q) (unless_refused next said)
+    go (Ok value) holds = more value holds
+    go (Err refusal) other = other
 
 -- ---- what is read
 
-abbrev pub IsRead : {A : Type 0} → Result A Refusal → Type 0
-IsRead said = Gives (λ value. Unit {0}) said
+abbrev pub IsAsked : {A : Type 0} → Inquiry (Result A Refusal) → Type 0
+IsAsked inquiry = AsksFor (λ value. Unit {0}) inquiry
 
-pub read-then : {A B : Type 0} (Q : B → Type 0) (said : Result A Refusal) (next : A → Result B Refusal)
-    → IsRead said → ((value : A) → Gives Q (next value)) → Gives Q (then_requests said next)
-read-then Q said next read more = gives-then (λ value. Unit {0}) Q said next read (λ value _. more value)
+pub asked-then : {A B : Type 0} (Q : B → Type 0) (inquiry : Inquiry (Result A Refusal)) (next : A → Inquiry (Result B Refusal))
+    → IsAsked inquiry → ((value : A) → AsksFor Q (next value)) → AsksFor Q (and_then inquiry next)
+asked-then Q inquiry next asked more = asks-then (λ value. Unit {0}) Q inquiry next asked (λ value _. more value)
 
-pub source-validated : (said : Result Sourced SourceFault) → IsRead (validated_source said)
-source-validated said = grind arith
+asked-all : {A : Type 0} (P : A → Type 0) (inquiry : Inquiry A) → ((value : A) → P value) → Always P inquiry
+asked-all P (Answer value) all = all value
+asked-all P (Ask question more) all = λ reply is. asked-all P (more reply) all
 
-pub script-validated : (said : Result ScriptView (ℕ × ScriptKind)) → IsRead (validated_script said)
-script-validated said = grind arith
+pub text-asked : (kind : InputKind) (path : List ℕ) → IsAsked (text_of kind path)
+unfolding text_of
+text-asked kind path = λ reply is. grind arith
 
-long-read : (kind : InputKind) (length : ℕ) → IsOfWords (reason_of (long_refusal kind length)) → ⊥
-long-read kind length = grind arith
+requested-asked : (kind : InputKind) (path : Option (List ℕ)) → IsAsked (requested_text kind path)
+unfolding requested_text
+requested-asked kind None = tt
+requested-asked kind (Some path) = asked-then _ (text_of kind path) _ (text-asked kind path) (λ text. tt)
 
-source-read : (path : List ℕ) (file : InputFile) → IsRead (accepted_source path file)
-source-read path file = grind (arith, long-read)
+as-given : (said : Result Sourced SourceFault) → IsOfInputs (λ value. Unit {0}) (result_as Faulty said)
+as-given (Ok source) = tt
+as-given (Err fault) = λ other. other
 
-roms-read : (paths : List (List ℕ)) (files : List InputFile) → IsRead (accepted_roms paths files)
-roms-read [] files = tt
-roms-read (path ∷ paths) [] = λ no. no
-roms-read (path ∷ paths) (file ∷ files) = (let more = roms-read paths files in grind (arith, long-read, more))
+pub source-asked : (path : List ℕ) → IsAsked (source_of path)
+unfolding source_of
+source-asked path =
+    asked-then _ (text_of kinds.Source path) _ (text-asked kinds.Source path)
+    (λ text. always-bind (λ said. Unit {0}) (IsOfInputs (λ value. Unit {0})) (source_inquiry path text) (λ said. Answer (result_as Faulty said))
+    (asked-all (λ said. Unit {0}) (source_inquiry path text) (λ said. tt)) (λ said _. as-given said))
+
+program-asked : (rom : Bool) (path : List ℕ) → IsAsked (program_of rom path)
+unfolding program_of
+program-asked true path = asked-then _ (text_of kinds.Rom path) _ (text-asked kinds.Rom path) (λ rom. tt)
+program-asked false path = asked-then _ (source_of path) _ (source-asked path) (λ source. tt)
+
+symbols-asked : (path : Option (List ℕ)) → IsAsked (symbols_of path)
+unfolding symbols_of
+symbols-asked path = asked-then _ (requested_text kinds.Symbols path) _ (requested-asked kinds.Symbols path) (λ text. grind arith)
+
+script-asked : (path : Option (List ℕ)) → IsAsked (script_of path)
+unfolding script_of
+script-asked path = asked-then _ (requested_text kinds.Script path) _ (requested-asked kinds.Script path) (λ text. grind arith)
+
+commands-asked : (labels : List Label) (path : Option (List ℕ)) → IsAsked (commands_of labels path)
+unfolding commands_of
+commands-asked labels path = asked-then _ (requested_text kinds.Commands path) _ (requested-asked kinds.Commands path) (λ text. grind arith)
+
+machine-asked : (path : List ℕ) → IsAsked (machine_of path)
+unfolding machine_of
+machine-asked path = asked-then _ (source_of path) _ (source-asked path) (λ source. tt)
+
+gather-asked : {A P : Type 0} (ask : P → Inquiry (Result A Refusal)) (done : List A) (paths : List P) → ((path : P) → IsAsked (ask path)) → IsAsked (gather ask done paths)
+gather-asked ask done [] each = tt
+gather-asked ask done (path ∷ paths) each = asked-then _ (ask path) _ (each path) (λ value. gather-asked ask (done ++ value ∷ []) paths each)
 
 -- ---- what a command is given
 
-pub given-to-run : (c : Command) (task : Task) (view : InputsView) → IsRead (run_given c task view)
-given-to-run c task view = grind (arith, long-read)
+pub run-asked : (c : Command) (task : Task) → IsAsked (run_of c task)
+unfolding run_of
+run-asked c task =
+    asked-then _ _ _ (program-asked _ _) (λ program. asked-then _ _ _ (symbols-asked _) (λ labels. asked-then _ _ _ (script-asked _) (λ script.
+    asked-then _ _ _ (commands-asked _ _) (λ commands. tt))))
 
-pub disassembly-read : (task : Task) (view : InputsView) → IsRead (disassembly_given task view)
-disassembly-read task view = grind (arith, long-read)
+pub disassembly-asked : (task : Task) → IsAsked (disassembly_of task)
+unfolding disassembly_of
+disassembly-asked task = asked-then _ _ _ (text-asked _ _) (λ rom. asked-then _ _ _ (symbols-asked _) (λ given. tt))
 
-pub machines-given : (task : Task) (view : InputsView) → IsRead (machines_given task view)
-machines-given task view = grind (arith, long-read, roms-read)
+machines-in-asked : (setup : SetupView) → IsAsked (machines_in setup)
+unfolding machines_in
+machines-in-asked setup =
+    asked-then _ (gather machine_of [] setup.sources) _ (gather-asked machine_of [] setup.sources machine-asked)
+    (λ roms. asked-then _ (script_of setup.script) _ (script-asked setup.script) (λ script. tt))
+
+setup-asked : (path : List ℕ) → IsAsked (setup_of path)
+unfolding setup_of
+setup-asked path = asked-then _ (text_of kinds.Setup path) _ (text-asked kinds.Setup path) (λ text. grind arith)
+
+pub machines-asked : (task : Task) → IsAsked (machines_of task)
+unfolding machines_of
+machines-asked task = asked-then _ (setup_of task.file) machines_in (setup-asked task.file) machines-in-asked
 
 -- the files that are written out of a source are the outputs of its task
-pub files-given : (task : Task) (view : InputsView)
-    → Gives (λ (files : SourceFiles). text_paths files.texts ≡ command_outputs Assemble task) (source_files task view)
-files-given task view = search (rules, read-then, source-read, paths-output_texts)
+paths-output_texts : (task : Task) (source : List ℕ) → map (λ (t : Text). t.path) (output_texts task source) ≡ command_outputs Assemble task
+paths-output_texts task source = grind (arith, common_steps, map-append)
+
+pub files-asked : (task : Task) → AsksFor (λ (files : SourceFiles). text_paths files.texts ≡ command_outputs Assemble task) (files_of task)
+unfolding files_of
+files-asked task = asked-then _ _ _ (source-asked task.file) (λ source. paths-output_texts task source.text)
+
+pub outputs-asked : (included paths : List (List ℕ)) → IsAsked (free_outputs included paths)
+unfolding free_output
+outputs-asked included [] = tt
+outputs-asked included (path ∷ paths) = asked-then _ (free_output included path) _ (λ can _. grind arith) (λ free. outputs-asked included paths)

@@ -1,17 +1,9 @@
 pub mod Common
 pub mod WordLemmas
-pub mod ReadingLemmas
-pub mod SourceLemmas
-pub mod CommandLemmas
-pub mod RunInputLemmas
-pub mod MachineLemmas
 pub mod GivesLemmas
-pub mod SameViewLemmas
 pub mod OutputLemmas
 pub mod PlaceLemmas
 pub mod ApartLemmas
 pub mod FreeLemmas
 pub mod DidLemmas
 pub mod MakingLemmas
-pub mod WritingLemmas
-pub mod WriteLemmas

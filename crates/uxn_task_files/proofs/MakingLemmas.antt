@@ -1,14 +1,19 @@
--- Outputs that are looked at, and made.
-use Rattle.uxn_task_files.proofs.Common.{Err, IfSome, IsSome, List, None, Option, Some, [], ap, arith, bytes_eq, false, find, inl, inr, not, option_map}
-use Rattle.uxn_task_files.proofs.Common.{option_to_list, refl, sym, true, ℕ, ◌∙◌, ◌∷◌, ◌≡◌, common_steps, All-head, All-tail, bytes_eq-Decides, list_any}
-use Rattle.uxn_task_files.proofs.Common.{can_create, with_created, TreeEnded, TreeLooked, contents_after, Nodes, file_at, Change, TreeState, NoMemory, SinkFault}
-use Rattle.uxn_task_files.proofs.Common.{TreeFault, clashes, command_inputs, outputs_of, command_root, halted_by_tree, AreApart, AreFree, EndsMaking, HalfMade, IsUnmade}
-use Rattle.uxn_task_files.proofs.Common.{LooksAt, Made, Refuses, paths_of, observed_texts, AreFiles, CanMake, Text, text_paths, with_empty, Did, creating_all}
-use Rattle.uxn_task_files.proofs.Common.{Output, Halt, Refused, Stopped}
+-- Outputs that are looked at, made and written.
+use Rattle.uxn_task_files.proofs.Common.{Err, Ok, IfSome, IsSome, List, None, Option, Some, [], ap, arith, bytes_eq, false, find, inl, inr, option_map}
+use Rattle.uxn_task_files.proofs.Common.{option_to_list, refl, subst, sym, true, ℕ, ◌∙◌, ◌∷◌, ◌≡◌, common_steps, All-head, All-tail, bytes_eq-Decides, list_any}
+use Rattle.uxn_task_files.proofs.Common.{with_created, TreeEnded, TreeLooked, contents_after, Nodes, file_at, Change, TreeState}
+use Rattle.uxn_task_files.proofs.Common.{clashes, command_inputs, outputs_of, command_root, AreApart, AreFree, EndsMaking, HalfDone, IsUnmade}
+use Rattle.uxn_task_files.proofs.Common.{Made, WroteTexts, Refuses, paths_of, observed_texts, AreFiles, CanMake, Text, text_paths, with_empty, Did, creating_all, writing}
+use Rattle.uxn_task_files.proofs.Common.{Output, Gives, Inquires, free_outputs, Refusal}
+use Rattle.uxn_inquiry.specs.declared.halt.Halt.{Halt as InquiryHalt}
+use Rattle.uxn_inquiry.specs.declared.halt.Halt.TheVariants.{Refused, TreeFault, NoMemory}
+use Rattle.uxn_inquiry.specs.GivesLaws.{inquires-gives}
+use Rattle.uxn_inquiry.specs.Laws.{inquires-looked}
 use Rattle.uxn_io_traits.specs.FaultLaws.{counted-then}
+use Rattle.uxn_task_files.specs.Blame.{halt_of_inquiry}
 use Rattle.uxn_task_files.proofs.ApartLemmas.{makes_all, made_files}
 use Rattle.uxn_task_files.proofs.DidLemmas.{did-looked, still-unknown, refused-then}
-use Rattle.uxn_task_files.proofs.FreeLemmas.{unmade_first}
+use Rattle.uxn_task_files.proofs.FreeLemmas.{free-can, free-unmade}
 use Rattle.uxn_task_files.proofs.OutputLemmas.{observed_paths}
 use Rattle.uxn_task_files.proofs.PlaceLemmas.{no_clash-fewer}
 use Rattle.uxn_task_files.specs.declared.refusal.Refusal.TheVariants.{NoOutput}
@@ -21,23 +26,6 @@ file_among path (text ∷ texts) nodes e files =
     let here = All-head (λ (t : Text). IsSome (file_at nodes t.path)) text texts files in
     let there = All-tail (λ (t : Text). IsSome (file_at nodes t.path)) text texts files in
     grind (arith, common_steps, rest, here, there, bytes_eq-Decides)
-
-module _ (outputs : List Output) (apart : AreApart (paths_of outputs)) (tree : Option Nodes) (included : List (List ℕ))
-    (free : AreFree tree included (paths_of outputs)) where
-  abbrev inputs : List (List ℕ)
-  inputs = command_inputs apart.task.command apart.task
-
-  pub no_clash : find (clashes inputs (text_paths (observed_texts outputs))) (text_paths (observed_texts outputs)) ≡ None
-  no_clash =
-      rw (observed_paths outputs, apart.outputs) (no_clash-fewer inputs (option_to_list (command_root apart.task.command apart.task)) (outputs_of apart.task) (outputs_of apart.task) apart.apart)
-
-  -- each can be made
-  pub can_make : (contents : Option Nodes) → contents ≡ tree → IfSome contents (CanMake (observed_texts outputs))
-  can_make contents same =
-      let all : (nodes : Nodes) → None ≡ find (λ path. not (can_create nodes path)) (paths_of outputs) → CanMake (observed_texts outputs) nodes =
-      λ nodes l. makes_all inputs (observed_texts outputs) nodes no_clash (rw (observed_paths outputs) l) in
-      let looked = free.looked in
-      grind (arith, common_steps, all, looked, same)
 
 -- the known contents of a tree once files were made
 pub made-contents : (texts : List Text) (contents : Option Nodes) → IfSome contents (CanMake texts)
@@ -55,53 +43,75 @@ files-made outputs before now can did =
     (did.stands ∙ ap (λ ps. contents_after (creating_all ps) before.contents) (sym (observed_paths outputs)) ∙ made-contents (observed_texts outputs) before.contents can) can
 
 -- outputs that are not to be made, or a tree that failed
-pub looks-ended : (included paths : List (List ℕ)) (before now : TreeState) (Half : Type 0) (halt : Halt)
-    → LooksAt included paths before.contents (Err halt)
-    → TreeLooked (halted_by_tree {A = Unit {0}} (Err halt)) before now → EndsMaking included paths before now Half halt
-looks-ended included paths before now Half (Refused refusal) blocked looked =
-    record { blocked = blocked; contents = looked.contents; counted = looked.counted; refusals = inl looked.refusals }
-looks-ended included paths before now Half (Stopped TreeFault) other looked = inl looked
-looks-ended included paths before now Half (Stopped NoMemory) other looked = looked
-looks-ended included paths before now Half (Stopped SinkFault) other looked = absurd (other refl)
+pub looks-ended : (included paths : List (List ℕ)) (changes : List Change) (before now : TreeState) (halt : InquiryHalt Refusal)
+    → Inquires (λ (free : Unit {0}). free) (free_outputs included paths) before now (Err halt) → EndsMaking included paths changes before now (halt_of_inquiry halt)
+looks-ended included paths changes before now (Refused refusal) asks =
+    let looked = inquires-looked _ _ before now _ asks in
+    record { blocked = inquires-gives _ _ before now _ asks; contents = looked.contents; counted = looked.counted; refusals = inl looked.refusals }
+looks-ended included paths changes before now TreeFault asks = inl (inquires-looked _ _ before now _ asks)
+looks-ended included paths changes before now NoMemory asks = inquires-looked _ _ before now _ asks
 
-module _ (outputs : List Output) (included : List (List ℕ)) (start here now : TreeState) (free : AreFree start.contents included (paths_of outputs))
-    (looked : TreeLooked false start here) where
-  -- one that a tree of unknown contents did not make
-  pub one-unmade : (changes : List Change) (path : List ℕ) → IsUnmade here.contents (paths_of outputs) path → Did changes false true here now
-      → Refuses included (paths_of outputs) (NoOutput path) start now
-  one-unmade changes path unmade did =
-      let unknown : start.contents ≡ None = sym looked.contents ∙ unmade.unknown in
-      record {
-        blocked = record {
-          path = path;
-          names = refl;
-          blocked = Some path;
-          looked = rw unknown tt;
-          first = unmade_first included path (paths_of outputs) unmade.among free.apart;
-        };
-        contents = still-unknown changes here now did.done unmade.unknown ∙ sym unknown;
-        counted = counted-then start.tally here.tally now.tally false looked.counted did.done.counted;
-        refusals = inr (unknown, refused-then true start here now looked.refusals looked.counted.promise did.refusals);
-      }
+module _ (outputs : List Output) (apart : AreApart (paths_of outputs)) (included : List (List ℕ)) (start here : TreeState)
+    (asks : Inquires (λ (free : Unit {0}). free) (free_outputs included (paths_of outputs)) start here (Ok tt)) where
+  looked : TreeLooked false start here
+  looked = inquires-looked _ _ start here _ asks
 
-  -- the tree failed, and some were made
-  pub some-made : Did (creating_all (paths_of outputs)) true false here now → HalfMade included (paths_of outputs) start now
-  some-made did = (let all = did-looked _ true false start here now looked did in record { free = free; did = all.done; refusals = all.refusals })
+  free : AreFree start.contents included (paths_of outputs)
+  free = inquires-gives _ _ start here _ asks
 
-  -- all were made
-  pub all-made : AreApart (paths_of outputs) → Did (creating_all (paths_of outputs)) false false here now → Made included (paths_of outputs) start now
-  all-made apart did =
-      let all = did-looked _ false false start here now looked did in
-      record {
-        free = free;
-        did = all.done;
-        refusals = all.refusals;
-        files = λ path among. in_files path (rw (observed_paths outputs) among) (files-made outputs here now (can_make outputs apart start.contents included free here.contents looked.contents) did.done);
-      }
+  -- each can be made
+  pub can_make : IfSome here.contents (CanMake (observed_texts outputs))
+  can_make = subst (λ t. IfSome t (CanMake (observed_texts outputs))) (sym looked.contents) (go start.contents free)
     where
-      in_files : (path : List ℕ) → list_any (bytes_eq path) (text_paths (observed_texts outputs)) ≡ true → IfSome now.contents (AreFiles (observed_texts outputs))
-          → IfSome now.contents (λ nodes. IsSome (file_at nodes path))
-      in_files path among files = grind (arith, common_steps, file_among)
+      inputs : List (List ℕ)
+      inputs = command_inputs apart.task.command apart.task
 
--- what `make_outputs` needs
-pub ruleset making = (looks-ended, can_make, some-made)
+      no_clash : find (clashes inputs (text_paths (observed_texts outputs))) (text_paths (observed_texts outputs)) ≡ None
+      no_clash =
+          rw (observed_paths outputs, apart.outputs) (no_clash-fewer inputs (option_to_list (command_root apart.task.command apart.task)) (outputs_of apart.task) (outputs_of apart.task) apart.apart)
+
+      go : (t : Option Nodes) → AreFree t included (paths_of outputs) → IfSome t (CanMake (observed_texts outputs))
+      go None free = tt
+      go (Some nodes) free = makes_all inputs (observed_texts outputs) nodes no_clash (rw (observed_paths outputs) (free-can nodes included (paths_of outputs) free))
+
+  module _ (now : TreeState) where
+    -- one that a tree of unknown contents did not make
+    pub one-unmade : (changes : List Change) (path : List ℕ) → IsUnmade here.contents (paths_of outputs) path → Did changes false (Some path) here now
+        → Refuses included (paths_of outputs) (NoOutput path) start now
+    one-unmade changes path unmade did =
+        let unknown : start.contents ≡ None = sym looked.contents ∙ unmade.unknown in
+        record {
+          blocked = subst (λ t. Gives t (free_outputs included (paths_of outputs)) (Err (NoOutput path))) (sym unknown)
+              (free-unmade included (paths_of outputs) path unmade.among (subst (λ t. AreFree t included (paths_of outputs)) unknown free));
+          contents = still-unknown changes here now did.done unmade.unknown ∙ sym unknown;
+          counted = counted-then start.tally here.tally now.tally false looked.counted did.done.counted;
+          refusals = inr (record {
+            path = path;
+            names = refl;
+            unknown = unknown;
+            refused = refused-then (Some path) start here now looked.refusals looked.counted.promise did.refusals;
+          });
+        }
+
+    -- the tree failed, and some was done
+    pub half-done : (changes : List Change) → Did changes true None here now → HalfDone included (paths_of outputs) changes start now
+    half-done changes did = (let all = did-looked changes true None start here now looked did in record { free = free; did = all.done; refusals = all.refusals })
+
+    -- all were made
+    pub all-made : Did (creating_all (paths_of outputs)) false None here now → Made included (paths_of outputs) start now
+    all-made did =
+        let all = did-looked _ false None start here now looked did in
+        record {
+          free = free;
+          did = all.done;
+          refusals = all.refusals;
+          files = λ path among. in_files path (rw (observed_paths outputs) among) (files-made outputs here now can_make did.done);
+        }
+      where
+        in_files : (path : List ℕ) → list_any (bytes_eq path) (text_paths (observed_texts outputs)) ≡ true → IfSome now.contents (AreFiles (observed_texts outputs))
+            → IfSome now.contents (λ nodes. IsSome (file_at nodes path))
+        in_files path among files = grind (arith, common_steps, file_among)
+
+    -- all was written
+    pub all-written : Did (writing (observed_texts outputs)) false None here now → WroteTexts included (paths_of outputs) (observed_texts outputs) start now
+    all-written did = (let all = did-looked _ false None start here now looked did in record { free = free; did = all.done; refusals = all.refusals })

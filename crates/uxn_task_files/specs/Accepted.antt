@@ -1,40 +1,39 @@
--- What the inputs of a task say, once each is accepted: the first one that is not counts.
-use Rattle.std.specs.Prelude.{ℕ, Bool, true, false, List, [], ◌∷◌, ◌++◌, Option, Some, None, unwrap_or, Result, Ok, Err}
+-- What is asked for each input of a task, and what it says; then for all of them, in the order of work: the first that is not accepted
+-- counts, and nothing is asked behind it.
+use Rattle.std.specs.Prelude.{ℕ, Bool, true, false, not, ◌&&◌, if◌then◌else◌, List, [], ◌∷◌, ◌++◌, Option, Some, None, unwrap_or, Result, Ok, Err}
+use Rattle.std.specs.List.{list_any}
+use Rattle.std.specs.Str.{bytes_eq}
 use Rattle.debug_commands.specs.declared.command.DebugCommand.{DebugCommand}
 use Rattle.debug_commands.specs.Reading.{commands_of_text}
 use Rattle.play_script.specs.declared.script.ScriptKind.{ScriptKind}
-use Rattle.play_script.specs.Scripts.{ScriptView, script_of}
-use Rattle.setup_lines.specs.Setups.{SetupView}
+use Rattle.play_script.specs.Scripts.{ScriptView, script_of as script_in}
+use Rattle.setup_lines.specs.declared.setup.SetupKind.{SetupKind}
+use Rattle.setup_lines.specs.Setups.{SetupView, setup_of as setup_in}
 use Rattle.tal_listing.specs.Disassembly.{disassembly}
 use Rattle.tal_listing.specs.Listing.{listing_of}
 use Rattle.tal_rom.specs.Assembly.{rom_of, layout}
 use Rattle.tal_rom.specs.Program.{Program}
-use Rattle.tal_assembly.specs.declared.fault.SourceFault.{SourceFault}
-use Rattle.tal_assembly.specs.Sources.{Sourced, sourced}
+use Rattle.tal_assembly.specs.Sources.{Sourced, source_inquiry}
 use Rattle.tal_symbols.specs.Reading.{symbols_in}
 use Rattle.tal_symbols.specs.SymbolFile.{symbol_file}
 use Rattle.tal_words.specs.declared.name.Label.{Label}
-use Rattle.uxn_io_traits.specs.declared.trees.FileBytes.{FileBytes}
 use Rattle.uxn_arguments.specs.declared.words.Command.{Command}
+use Rattle.uxn_arguments.specs.declared.words.Command.TheVariants.{Debug, Disassemble}
 use Rattle.uxn_arguments.specs.declared.task.Task.{Task}
 use Rattle.uxn_arguments.specs.declared.role.Role.TheVariants as role
 use Rattle.uxn_arguments.specs.Tasks.{role_path}
+use Rattle.uxn_inquiry.specs.Inquiry.{Inquiry, Answer, and_then, gather, creatable, refused_as, result_as}
 use Rattle.uxn_task_files.specs.declared.inputs.InputKind.TheVariants as kinds
 use Rattle.uxn_task_files.specs.declared.refusal.Refusal.{Refusal}
-use Rattle.uxn_task_files.specs.declared.refusal.Refusal.TheVariants.{Missing, Faulty, BadSymbols, BadScript, BadCommands}
-use Rattle.uxn_task_files.specs.Inputs.{InputFile, NamedFiles, requested_text, kind_text}
-use Rattle.uxn_task_files.specs.Request.{then_requests, or_refused}
-use Rattle.uxn_task_files.specs.Setup.{accepted_setup}
-use Rattle.uxn_task_files.specs.Views.{InputsView, symbols_input, commands_input}
+use Rattle.uxn_task_files.specs.declared.refusal.Refusal.TheVariants.{Faulty, BadSymbols, BadScript, BadCommands, BadSetup, NoOutput}
+use Rattle.uxn_task_files.specs.Inputs.{text_of, requested_text}
+use Rattle.uxn_task_files.specs.Request.{then_requests}
 use Rattle.uxn_task_files.specs.World.{Text, requested_output}
 
 -- a source that has no fault, nor has a file that it includes (131): the text that is assembled, and the paths of the files that it
 -- includes
-abbrev pub validated_source : Result Sourced SourceFault → Result Sourced Refusal
-validated_source said = or_refused Faulty said
-
-abbrev pub accepted_source : List ℕ → InputFile → Result Sourced Refusal
-accepted_source path file = then_requests (kind_text kinds.Source path file.bytes) (λ text. validated_source (sourced file.beside path text))
+unfoldable pub source_of : List ℕ → Inquiry (Result Sourced Refusal)
+source_of path = and_then (text_of kinds.Source path) (λ text. refused_as Faulty (source_inquiry path text))
 
 -- what is run: the ROM, the labels of its source and the files that this includes
 pub record Loaded : Type 0 where
@@ -50,59 +49,58 @@ abbrev pub loaded_source : Sourced → Loaded
 loaded_source source = record { rom = rom_of source.text; labels = (layout source.text).labels; included = source.paths }
 
 -- the ROM that a file holds, or that of the source in it
-abbrev pub accepted_program : Bool → List ℕ → InputFile → Result Loaded Refusal
-accepted_program true path file = then_requests (kind_text kinds.Rom path file.bytes) (λ rom. Ok (loaded_rom rom))
-accepted_program false path file = then_requests (accepted_source path file) (λ source. Ok (loaded_source source))
-
--- a source's ROM, symbols and listing
-abbrev pub program_of : List ℕ → Program
-program_of source = record { rom = rom_of source; places = (layout source).words; labels = (layout source).labels }
-
-abbrev pub output_texts : Task → List ℕ → List Text
-output_texts task source =
-    requested_output (role_path task role.Out) (rom_of source) ++ requested_output (role_path task role.Symbols) (symbol_file (layout source).labels)
-    ++ requested_output (role_path task role.Listing) (listing_of source (program_of source))
+unfoldable pub program_of : Bool → List ℕ → Inquiry (Result Loaded Refusal)
+program_of true path = and_then (text_of kinds.Rom path) (λ rom. Answer (Ok (loaded_rom rom)))
+program_of false path = and_then (source_of path) (λ source. Answer (Ok (loaded_source source)))
 
 -- a script that has no fault (132); without a file it is that of an empty text
 abbrev pub validated_script : Result ScriptView (ℕ × ScriptKind) → Result ScriptView Refusal
-validated_script said = or_refused (λ fault. BadScript fault.0 fault.1) said
+validated_script said = result_as (λ fault. BadScript fault.0 fault.1) said
 
 abbrev pub said_script : Option (List ℕ) → Result ScriptView Refusal
-said_script text = validated_script (script_of (unwrap_or text []))
+said_script text = validated_script (script_in (unwrap_or text []))
 
-abbrev pub accepted_script : Option (List ℕ) → FileBytes → Result ScriptView Refusal
-accepted_script path file = then_requests (requested_text kinds.Script path file) said_script
+unfoldable pub script_of : Option (List ℕ) → Inquiry (Result ScriptView Refusal)
+script_of path = and_then (requested_text kinds.Script path) (λ text. Answer (said_script text))
 
 -- the labels of a symbol file that has no fault (134), where one is given
 abbrev pub said_symbols : Option (List ℕ) → Result (Option (List Label)) Refusal
 said_symbols None = Ok None
-said_symbols (Some text) = then_requests (or_refused (λ bad. BadSymbols bad.entry bad.kind) (symbols_in text)) (λ labels. Ok (Some labels))
+said_symbols (Some text) = then_requests (result_as (λ bad. BadSymbols bad.entry bad.kind) (symbols_in text)) (λ labels. Ok (Some labels))
 
-abbrev pub accepted_symbols : Option (List ℕ) → FileBytes → Result (Option (List Label)) Refusal
-accepted_symbols path file = then_requests (requested_text kinds.Symbols path file) said_symbols
-
--- the labels of a debugger: those, else those of the source
-abbrev pub debug_labels : Option (List Label) → Loaded → List Label
-debug_labels given program = unwrap_or given program.labels
+unfoldable pub symbols_of : Option (List ℕ) → Inquiry (Result (Option (List Label)) Refusal)
+symbols_of path = and_then (requested_text kinds.Symbols path) (λ text. Answer (said_symbols text))
 
 -- commands that have no fault (133); without a file there are none
 abbrev pub said_commands : List Label → Option (List ℕ) → Result (List DebugCommand) Refusal
 said_commands labels None = Ok []
-said_commands labels (Some text) = or_refused (λ fault. BadCommands fault.0 fault.1) (commands_of_text labels text)
+said_commands labels (Some text) = result_as (λ fault. BadCommands fault.0 fault.1) (commands_of_text labels text)
 
-abbrev pub accepted_commands : List Label → Option (List ℕ) → FileBytes → Result (List DebugCommand) Refusal
-accepted_commands labels path file = then_requests (requested_text kinds.Commands path file) (said_commands labels)
+unfoldable pub commands_of : List Label → Option (List ℕ) → Inquiry (Result (List DebugCommand) Refusal)
+commands_of labels path = and_then (requested_text kinds.Commands path) (λ text. Answer (said_commands labels text))
 
--- the ROM of a machine's source, which is there (130) and has no fault (131)
-abbrev pub accepted_machine : List ℕ → InputFile → Result (List ℕ) Refusal
-accepted_machine path file = then_requests (accepted_source path file) (λ source. Ok (rom_of source.text))
+-- a setup that has no fault (139)
+abbrev pub validated_setup : Result SetupView (ℕ × SetupKind) → Result SetupView Refusal
+validated_setup said = result_as (λ fault. BadSetup fault.0 fault.1) said
 
--- those of all machines, one after the other
-abbrev pub accepted_roms : List (List ℕ) → List InputFile → Result (List (List ℕ)) Refusal
-accepted_roms [] files = Ok []
-accepted_roms (path ∷ paths) [] = Err (Missing path)
-accepted_roms (path ∷ paths) (file ∷ files) =
-    then_requests (accepted_machine path file) (λ rom. then_requests (accepted_roms paths files) (λ roms. Ok (rom ∷ roms)))
+unfoldable pub setup_of : List ℕ → Inquiry (Result SetupView Refusal)
+setup_of path = and_then (text_of kinds.Setup path) (λ text. Answer (validated_setup (setup_in text)))
+
+-- the ROM of a machine's source
+unfoldable pub machine_of : List ℕ → Inquiry (Result (List ℕ) Refusal)
+machine_of path = and_then (source_of path) (λ source. Answer (Ok (rom_of source.text)))
+
+-- ---- the inputs of each command, in the order of work
+
+-- the symbol file and the commands are inputs of a debugger, the symbol file of `dis` too
+abbrev pub symbols_input : Command → Task → Option (List ℕ)
+symbols_input Debug task = role_path task role.Symbols
+symbols_input Disassemble task = role_path task role.Symbols
+symbols_input _ task = None
+
+abbrev pub commands_input : Command → Task → Option (List ℕ)
+commands_input Debug task = role_path task role.Commands
+commands_input _ task = None
 
 -- what a run is given: its program, the labels of a symbol file where one is given, its script, and the commands of a debugger
 pub record GivenInputs : Type 0 where
@@ -111,45 +109,65 @@ pub record GivenInputs : Type 0 where
   pub script : ScriptView
   pub commands : List DebugCommand
 
-abbrev pub run_given : Command → Task → InputsView → Result GivenInputs Refusal
-run_given c task view =
-    then_requests (accepted_program task.rom task.file view.file) (λ program.
-    then_requests (accepted_symbols (symbols_input c task) view.symbols) (λ labels.
-    then_requests (accepted_script (role_path task role.Script) view.script) (λ script.
-    then_requests (accepted_commands (debug_labels labels program) (commands_input c task) view.commands) (λ commands.
-    Ok (record { program = program; labels = labels; script = script; commands = commands })))))
+-- the labels of a debugger: those of the symbol file, else those of the source
+abbrev pub debug_labels : Option (List Label) → Loaded → List Label
+debug_labels given program = unwrap_or given program.labels
 
--- the files that are written out of a source, and those that it includes
+-- `play` and `debug`
+unfoldable pub run_of : Command → Task → Inquiry (Result GivenInputs Refusal)
+run_of c task =
+    and_then (program_of task.rom task.file) (λ program.
+    and_then (symbols_of (symbols_input c task)) (λ labels.
+    and_then (script_of (role_path task role.Script)) (λ script.
+    and_then (commands_of (debug_labels labels program) (commands_input c task)) (λ commands.
+    Answer (Ok (record { program = program; labels = labels; script = script; commands = commands }))))))
+
+-- `asm`: a source's ROM, symbols and listing, in the files that are requested; with the files that it includes
+abbrev pub program_in : List ℕ → Program
+program_in source = record { rom = rom_of source; places = (layout source).words; labels = (layout source).labels }
+
+abbrev pub output_texts : Task → List ℕ → List Text
+output_texts task source =
+    requested_output (role_path task role.Out) (rom_of source) ++ requested_output (role_path task role.Symbols) (symbol_file (layout source).labels)
+    ++ requested_output (role_path task role.Listing) (listing_of source (program_in source))
+
 pub record SourceFiles : Type 0 where
   pub texts : List Text
   pub included : List (List ℕ)
 
-abbrev pub written_files : Task → Sourced → SourceFiles
-written_files task source = record { texts = output_texts task source.text; included = source.paths }
+unfoldable pub files_of : Task → Inquiry (Result SourceFiles Refusal)
+files_of task = and_then (source_of task.file) (λ source. Answer (Ok (record { texts = output_texts task source.text; included = source.paths })))
 
-abbrev pub source_files : Task → InputsView → Result SourceFiles Refusal
-source_files task view = then_requests (accepted_source task.file view.file) (λ source. Ok (written_files task source))
+-- `dis`: the disassembly of a ROM, with the labels of a symbol file
+unfoldable pub disassembly_of : Task → Inquiry (Result (List ℕ) Refusal)
+disassembly_of task =
+    and_then (text_of kinds.BankRom task.file) (λ rom.
+    and_then (symbols_of (role_path task role.Symbols)) (λ given.
+    Answer (Ok (disassembly rom (unwrap_or given [])))))
 
--- the disassembly of a ROM, with the labels of a symbol file
-abbrev pub labelled_disassembly : List ℕ → Option (List Label) → Result (List ℕ) Refusal
-labelled_disassembly rom given = Ok (disassembly rom (unwrap_or given []))
-
-abbrev pub disassembly_given : Task → InputsView → Result (List ℕ) Refusal
-disassembly_given task view =
-    then_requests (kind_text kinds.BankRom task.file view.file.bytes) (λ rom.
-    then_requests (accepted_symbols (role_path task role.Symbols) view.symbols) (labelled_disassembly rom))
-
--- the machines of a setup, once the files that it names are accepted: their ROMs, and the script of the first one
+-- `line`: the machines of a setup: their ROMs, and the script of the first one
 pub record Machines : Type 0 where
   pub setup : SetupView
   pub roms : List (List ℕ)
   pub script : ScriptView
 
-abbrev pub accepted_machines : SetupView → NamedFiles → Result Machines Refusal
-accepted_machines setup named =
-    then_requests (accepted_roms setup.sources named.sources) (λ roms.
-    then_requests (accepted_script setup.script named.script) (λ script.
-    Ok (record { setup = setup; roms = roms; script = script })))
+unfoldable pub machines_in : SetupView → Inquiry (Result Machines Refusal)
+machines_in setup =
+    and_then (gather machine_of [] setup.sources) (λ roms.
+    and_then (script_of setup.script) (λ script.
+    Answer (Ok (record { setup = setup; roms = roms; script = script }))))
 
-abbrev pub machines_given : Task → InputsView → Result Machines Refusal
-machines_given task view = then_requests (accepted_setup task.file view.file.bytes) (λ setup. accepted_machines setup view.named)
+unfoldable pub machines_of : Task → Inquiry (Result Machines Refusal)
+machines_of task = and_then (setup_of task.file) machines_in
+
+-- ---- then the outputs, in order: each can be made and is no included file (135)
+
+abbrev pub said_output : List (List ℕ) → List ℕ → Bool → Result (Unit {0}) Refusal
+said_output included path can = if can && not (list_any (bytes_eq path) included) then Ok tt else Err (NoOutput path)
+
+unfoldable pub free_output : List (List ℕ) → List ℕ → Inquiry (Result (Unit {0}) Refusal)
+free_output included path = and_then (creatable path) (λ can. Answer (said_output included path can))
+
+abbrev pub free_outputs : List (List ℕ) → List (List ℕ) → Inquiry (Result (Unit {0}) Refusal)
+free_outputs included [] = Answer (Ok tt)
+free_outputs included (path ∷ rest) = and_then (free_output included path) (λ free. free_outputs included rest)

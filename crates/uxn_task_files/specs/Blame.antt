@@ -1,14 +1,9 @@
 -- Who is to blame where a call ended early, and the status that says so.
 use Rattle.std.specs.Prelude.{ℕ, ◌==◌, Bool, true, false, Result, Ok, Err, if◌then◌else◌}
 use Rattle.uxn_io_traits.specs.Faults.{Blame, Nobody, TheTree, ASink}
-use Rattle.uxn_io_traits.specs.declared.trees.ReadStop.{ReadStop}
-use Rattle.uxn_io_traits.specs.declared.trees.ReadStop.TheVariants.{Failed, NoMemory as WantsMemory}
-use Rattle.tal_assembly.specs.declared.fault.SourceStop.{SourceStop}
-use Rattle.tal_assembly.specs.declared.fault.SourceStop.TheVariants.{Refused as BadSource, TreeFault as SourceTree, NoMemory as SourceMemory}
-use Rattle.uxn_arguments.specs.declared.words.WordFault.TheVariants as words
-use Rattle.uxn_arguments.specs.declared.words.WordStop.{WordStop}
-use Rattle.uxn_arguments.specs.declared.words.WordStop.TheVariants.{Refused as BadWords, NoMemory as WordMemory}
-use Rattle.uxn_task_files.specs.declared.refusal.Refusal.TheVariants.{NotUnderstood, NoPath, Faulty}
+use Rattle.uxn_inquiry.specs.declared.halt.Halt.{Halt as InquiryHalt}
+use Rattle.uxn_inquiry.specs.declared.halt.Halt.TheVariants.{Refused as Denied, TreeFault as TreeFailed, NoMemory as OutOfMemory}
+use Rattle.uxn_task_files.specs.declared.refusal.Refusal.{Refusal}
 use Rattle.uxn_opcodes.specs.declared.Stop.{Stop}
 use Rattle.uxn_opcodes.specs.declared.Stop.TheVariants.{TreeFault, SinkFault, NoMemory}
 use Rattle.uxn_task_files.specs.declared.refusal.Halt.{Halt}
@@ -52,19 +47,8 @@ OnRefused (Ok value) P = Unit {0}
 OnRefused (Err (Refused refusal)) P = P
 OnRefused (Err (Stopped stop)) P = Unit {0}
 
--- a file that was not read
-abbrev pub halt_of_read : ReadStop → Halt
-halt_of_read Failed = Stopped TreeFault
-halt_of_read WantsMemory = Stopped NoMemory
-
--- words that were not read
-abbrev pub halt_of_words : WordStop → Halt
-halt_of_words (BadWords words.NotUnderstood) = Refused NotUnderstood
-halt_of_words (BadWords (words.NoPath word)) = Refused (NoPath word)
-halt_of_words WordMemory = Stopped NoMemory
-
--- a source that was not assembled
-abbrev pub halt_of_source : SourceStop → Halt
-halt_of_source (BadSource fault) = Refused (Faulty fault)
-halt_of_source SourceTree = Stopped TreeFault
-halt_of_source SourceMemory = Stopped NoMemory
+-- a call that asks a tree
+abbrev pub halt_of_inquiry : InquiryHalt Refusal → Halt
+halt_of_inquiry (Denied refusal) = Refused refusal
+halt_of_inquiry TreeFailed = Stopped TreeFault
+halt_of_inquiry OutOfMemory = Stopped NoMemory

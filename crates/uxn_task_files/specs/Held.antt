@@ -2,8 +2,6 @@
 use Rattle.std.specs.Prelude.{◌≡◌, ℕ, ◌≤◌, List, length, All, Option, option_map}
 use Rattle.std.specs.Global.{Vec}
 use Rattle.play_script.specs.Held.{bytes_in}
-use Rattle.tal_assembly.specs.Answers.{SourceView}
-use Rattle.tal_assembly.specs.Sources.{Sourced}
 use Rattle.tal_words.specs.declared.name.Label.{Label}
 use Rattle.uxn_io_traits.specs.ByteList.{ByteList}
 use Rattle.uxn_memory.specs.Bytes.{largest_rom}
@@ -14,10 +12,6 @@ use Rattle.uxn_task_files.specs.declared.program.Program.TheVariants.{Rom, Sourc
 use Rattle.uxn_task_files.specs.declared.run_inputs.RunInputs.{RunInputs}
 use Rattle.uxn_task_files.specs.Accepted.{Loaded, loaded_rom, debug_labels, GivenInputs, SourceFiles, Machines}
 use Rattle.uxn_task_files.specs.Outputs.{observed_texts}
-
--- a source that was read: the text that is assembled, and the paths of the files that it includes
-abbrev pub model_of_source : SourceView → Sourced
-model_of_source source = record { text = source.text; paths = source.paths }
 
 -- a program that was loaded
 abbrev pub model_of_program : Program → Loaded

@@ -1,14 +1,14 @@
--- The files that a task reads, by their kinds: what each may hold at most, why a longer one is refused, and the bytes that it holds.
+-- The files that a task reads, by their kinds: what each may hold at most, why a longer one is refused, and what is asked for its bytes.
 use Rattle.std.specs.Prelude.{ℕ, List, [], Option, Some, None, Result, Ok, Err}
 use Rattle.debug_commands.specs.declared.command.CommandKind.TheVariants.{LongCommands}
 use Rattle.play_script.specs.declared.script.ScriptKind.TheVariants.{LongScript}
 use Rattle.setup_lines.specs.declared.setup.SetupKind.TheVariants.{LongSetup}
-use Rattle.tal_include.specs.Splice.{Reading}
 use Rattle.tal_include.specs.declared.faults.IncludeKind.TheVariants.{Words}
 use Rattle.tal_rom.specs.Rom.{rom_limit}
 use Rattle.tal_assembly.specs.declared.fault.SourceFault.{SourceFault}
 use Rattle.tal_symbols.specs.declared.stop.SymbolKind.TheVariants.{Long}
 use Rattle.tal_words.specs.declared.fault.FaultKind.TheVariants.{LongSource}
+use Rattle.uxn_inquiry.specs.Inquiry.{Inquiry, Answer, and_then, file_of}
 use Rattle.uxn_io_traits.specs.ByteList.{tight}
 use Rattle.uxn_io_traits.specs.declared.trees.FileBytes.{FileBytes}
 use Rattle.uxn_io_traits.specs.declared.trees.FileBytes.TheVariants.{Found, Missing as NoFile, TooLong}
@@ -17,7 +17,6 @@ use Rattle.uxn_task_files.specs.declared.inputs.InputKind.{InputKind}
 use Rattle.uxn_task_files.specs.declared.inputs.InputKind.TheVariants as kinds
 use Rattle.uxn_task_files.specs.declared.refusal.Refusal.{Refusal}
 use Rattle.uxn_task_files.specs.declared.refusal.Refusal.TheVariants.{Missing, Faulty, LongRom, BadSymbols, BadScript, BadCommands, BadSetup}
-use Rattle.uxn_task_files.specs.Request.{then_requests}
 
 -- no more bytes of a file are read: all banks are filled by a ROM that is run, bank 0 by one that is disassembled
 abbrev pub limit_of : InputKind → ℕ
@@ -49,20 +48,11 @@ kind_text kind path (Found text) = Ok text.list
 kind_text kind path NoFile = Err (Missing path)
 kind_text kind path (TooLong length) = Err (long_refusal kind length)
 
--- the same, where the file is requested
-abbrev pub requested_text : InputKind → Option (List ℕ) → FileBytes → Result (Option (List ℕ)) Refusal
-requested_text kind None file = Ok None
-requested_text kind (Some path) file = then_requests (kind_text kind path file) (λ text. Ok (Some text))
+-- its bytes are asked for
+unfoldable pub text_of : InputKind → List ℕ → Inquiry (Result (List ℕ) Refusal)
+text_of kind path = and_then (file_of path (limit_of kind)) (λ file. Answer (kind_text kind path file))
 
--- a file that was observed, and what reading each file beside it gives that it may include
-pub record InputFile : Type 0 where
-  pub bytes : FileBytes
-  pub beside : Reading
-
--- the files that a setup names: the source of each machine, and the script
-pub record NamedFiles : Type 0 where
-  pub sources : List InputFile
-  pub script : FileBytes
-
-abbrev pub no_files : NamedFiles
-no_files = record { sources = []; script = NoFile }
+-- the same, where the words name one
+unfoldable pub requested_text : InputKind → Option (List ℕ) → Inquiry (Result (Option (List ℕ)) Refusal)
+requested_text kind None = Answer (Ok None)
+requested_text kind (Some path) = and_then (text_of kind path) (λ text. Answer (Ok (Some text)))

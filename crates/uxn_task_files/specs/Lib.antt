@@ -5,13 +5,8 @@ pub mod Writing
 pub mod Outputs
 pub mod Request
 pub mod Inputs
-pub mod Setup
-pub mod FollowsDefinition
 pub mod Blame
-pub mod Reading
 pub mod Puts
-pub mod Views
 pub mod Accepted
 pub mod Held
 pub mod Made
-pub mod SameView

@@ -13,11 +13,6 @@ abbrev pub then_requests : {A B : Type 0} → Result A Refusal → (A → Result
 then_requests (Ok value) next = next value
 then_requests (Err refusal) next = Err refusal
 
--- a verdict of its own as a step: its fault is a refusal
-abbrev pub or_refused : {A E : Type 0} → (E → Refusal) → Result A E → Result A Refusal
-or_refused why (Ok value) = Ok value
-or_refused why (Err fault) = Err (why fault)
-
 -- the words are legal (128), and each that names a file is a path (129)
 abbrev pub refused : Result Task WordFault → Result Task Refusal
 refused (Ok task) = Ok task

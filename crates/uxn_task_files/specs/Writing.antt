@@ -1,5 +1,5 @@
 -- Files that are made and filled, as changes in order.
-use Rattle.std.specs.Prelude.{ℕ, Bool, List, ◌++◌, map}
+use Rattle.std.specs.Prelude.{ℕ, Bool, List, ◌++◌, map, Option}
 use Rattle.std.specs.List.{flat_map}
 use Rattle.uxn_io_traits.specs.Ended.{TreeEnded, Refused}
 use Rattle.uxn_io_traits.specs.Outside.{Change, Creates, ToFile}
@@ -21,7 +21,7 @@ filling_all texts = flat_map filling texts
 unfoldable pub writing : List Text → List Change
 writing texts = creating_all (map (λ text. text.path) texts) ++ filling_all texts
 
--- changes were made, or a prefix of them where the tree failed; and whether the tree itself refused to create a file
-pub record Did (changes : List Change) (failed refused : Bool) (before now : TreeState) : Type 0 where
+-- changes were made, or a prefix of them where the tree failed; and the file that the tree itself refused to create
+pub record Did (changes : List Change) (failed : Bool) (refused : Option (List ℕ)) (before now : TreeState) : Type 0 where
   pub done : TreeEnded changes failed before now
   pub refusals : Refused refused before now

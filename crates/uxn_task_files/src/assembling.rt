@@ -3,15 +3,14 @@ ghost use Rattle.std.specs.Prelude.{◌≡◌, ◌++◌, Ok, IfOk, OnOk};
 ghost use Rattle.tal_rom.specs.Assembly.{IsAssembled};
 ghost use Rattle.tal_symbols.specs.SymbolFile.{symbol_file};
 ghost use Rattle.tal_listing.specs.Listing.{listing_of};
-ghost use Rattle.uxn_task_files.specs.Accepted.{source_files, output_texts};
+ghost use Rattle.uxn_inquiry.specs.Inquires.{Inquires};
+ghost use Rattle.uxn_task_files.specs.Accepted.{files_of, output_texts};
 ghost use Rattle.uxn_task_files.specs.Held.{model_of_files};
 ghost use Rattle.uxn_task_files.specs.Made.{AreApart, WritesOutputs};
 ghost use Rattle.uxn_task_files.specs.Outputs.{paths_of, observed_texts};
-ghost use Rattle.uxn_task_files.specs.Views.{ReadsInputs};
 ghost use Rattle.uxn_task_files.specs.World.{requested_output};
 
-use super::making::look_at;
-use super::outputs::{Output, write_all};
+use super::outputs::{Output, look_at, write_all};
 use super::refusal::{Halt, Refusal};
 use super::sources::accept_source;
 use std::alloc::{AllocError, Global};
@@ -19,7 +18,8 @@ use tal_assembly::AssembledSource;
 use tal_listing::listing;
 use tal_rom::Assembly;
 use tal_symbols::write_symbols;
-use uxn_arguments::{Command, Role, Task};
+use uxn_arguments::{Role, Task};
+use uxn_inquiry::Halt as InquiryHalt;
 use uxn_io_traits::{Path, Tree};
 
 /// The file of a ROM, where it was requested.
@@ -110,9 +110,12 @@ pub struct Written {
 }
 
 /// Assembles the source in a file. All that takes memory is done here, before the first file is made.
-pub fn assemble<T: Tree>(alloc: Global, task: &Task, tree: &mut T) -> Result<Written, Halt>
-    requires { task.now.command ≡ Command.Assemble }
-    ensures { ReadsInputs model_of_files task.now (source_files task.now) (T.state tree.old) (T.state tree.new) result }
+pub fn assemble<T: Tree>(
+    alloc: Global,
+    task: &Task,
+    tree: &mut T,
+) -> Result<Written, InquiryHalt<Refusal>>
+    ensures { Inquires model_of_files (files_of task.now) (T.state tree.old) (T.state tree.new) result }
 {
     let source = accept_source(alloc, &task.file, tree)?;
     let outputs = outputs_of(alloc, task, &source)?;
@@ -120,7 +123,6 @@ pub fn assemble<T: Tree>(alloc: Global, task: &Task, tree: &mut T) -> Result<Wri
 }
 
 /// Writes the files that were requested.
-#[tactic(auto, using(crate::proofs::WriteLemmas::writes))]
 pub fn write_outputs<T: Tree>(written: &Written, tree: &mut T) -> Result<(), Halt>
     requires { AreApart (paths_of written.now.outputs.items) }
     ensures { WritesOutputs written.now.source.paths (paths_of written.now.outputs.items) (observed_texts written.now.outputs.items) (T.state tree.old) (T.state tree.new) result }

@@ -1,26 +1,23 @@
 //! The commands of a debugger.
 ghost use Rattle.std.specs.Prelude.{option_map};
-ghost use Rattle.uxn_task_files.specs.Accepted.{accepted_commands, said_commands};
-ghost use Rattle.uxn_task_files.specs.FollowsDefinition.{FollowsDefinition};
-ghost use Rattle.uxn_task_files.specs.Reading.{ReadsInput};
-ghost use Rattle.uxn_task_files.specs.Views.{input_observed};
-ghost use Rattle.uxn_task_files.specs.declared.inputs.InputKind.TheVariants as kinds;
+ghost use Rattle.uxn_inquiry.specs.Inquires.{Inquires, Says};
+ghost use Rattle.uxn_task_files.specs.Accepted.{commands_of, said_commands};
 
 use super::inputs::{InputKind, read_requested};
-use super::refusal::{Halt, Refusal};
+use super::refusal::Refusal;
 use debug_commands::{CommandStop, DebugCommand, read_commands};
 use std::alloc::Global;
 use tal_words::Label;
+use uxn_inquiry::Halt;
 use uxn_io_traits::{Bytes, Path, Tree};
-use uxn_opcodes::Stop;
 
 /// The commands of a file; without one there are none.
 fn said_commands(
     alloc: Global,
     labels: &[Label],
     text: &Option<Bytes>,
-) -> Result<Vec<DebugCommand>, Halt>
-    ensures { FollowsDefinition (λ commands. commands.items) result (said_commands labels.now (option_map (λ text. text.list) text.now)) }
+) -> Result<Vec<DebugCommand>, Halt<Refusal>>
+    ensures { Says (λ commands. commands.items) (said_commands labels.now (option_map (λ text. text.list) text.now)) result }
 {
     let Some(text) = text else {
         return Ok(Vec::new(alloc));
@@ -30,7 +27,7 @@ fn said_commands(
         Err(CommandStop::Refused { line, kind }) => {
             Err(Halt::Refused(Refusal::BadCommands(line, kind)))
         }
-        Err(CommandStop::NoMemory) => Err(Halt::Stopped(Stop::NoMemory)),
+        Err(CommandStop::NoMemory) => Err(Halt::NoMemory),
     }
 }
 
@@ -40,9 +37,8 @@ pub fn accept_commands<T: Tree>(
     path: &Option<Path>,
     labels: &[Label],
     tree: &mut T,
-) -> Result<Vec<DebugCommand>, Halt>
-    ensures { ReadsInput (λ commands. commands.items) (input_observed kinds.Commands path.now) (accepted_commands labels.now path.now)
-        (T.state tree.old) (T.state tree.new) result }
+) -> Result<Vec<DebugCommand>, Halt<Refusal>>
+    ensures { Inquires (λ commands. commands.items) (commands_of labels.now path.now) (T.state tree.old) (T.state tree.new) result }
 {
     let text = read_requested(alloc, InputKind::Commands, path, tree)?;
     said_commands(alloc, labels, &text)

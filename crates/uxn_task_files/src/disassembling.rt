@@ -1,20 +1,23 @@
 //! What `dis` prints.
-ghost use Rattle.std.specs.Prelude.{◌≡◌};
-ghost use Rattle.uxn_task_files.specs.Accepted.{disassembly_given};
-ghost use Rattle.uxn_task_files.specs.Views.{ReadsInputs};
+ghost use Rattle.uxn_inquiry.specs.Inquires.{Inquires};
+ghost use Rattle.uxn_task_files.specs.Accepted.{disassembly_of};
 
 use super::inputs::{InputKind, read_text};
-use super::refusal::Halt;
+use super::refusal::Refusal;
 use super::symbols::{accept_symbols, labels_or};
 use std::alloc::Global;
 use tal_listing::disassemble;
-use uxn_arguments::{Command, Role, Task};
+use uxn_arguments::{Role, Task};
+use uxn_inquiry::Halt;
 use uxn_io_traits::Tree;
 
 /// The disassembly of a ROM file, where it and the symbols are accepted.
-pub fn disassemble_rom<T: Tree>(alloc: Global, task: &Task, tree: &mut T) -> Result<Vec<u8>, Halt>
-    requires { task.now.command ≡ Command.Disassemble }
-    ensures { ReadsInputs (λ text. text.items) task.now (disassembly_given task.now) (T.state tree.old) (T.state tree.new) result }
+pub fn disassemble_rom<T: Tree>(
+    alloc: Global,
+    task: &Task,
+    tree: &mut T,
+) -> Result<Vec<u8>, Halt<Refusal>>
+    ensures { Inquires (λ text. text.items) (disassembly_of task.now) (T.state tree.old) (T.state tree.new) result }
 {
     let rom = read_text(alloc, InputKind::BankRom, &task.file, tree)?;
     let given = accept_symbols(alloc, &task.path(Role::Symbols), tree)?;

@@ -1,12 +1,10 @@
 //! Inputs: the files that are read, one after the other, each by its kind.
 ghost use Rattle.std.specs.Prelude.{◌≡◌, ◌≤◌, length, option_map, IfOk};
 ghost use Rattle.uxn_io_traits.specs.WholeFile.{KeepsLimit};
-ghost use Rattle.uxn_task_files.specs.FollowsDefinition.{FollowsDefinition};
-ghost use Rattle.uxn_task_files.specs.Inputs.{requested_text, limit_of, long_refusal, kind_text, too_long};
-ghost use Rattle.uxn_task_files.specs.Reading.{ReadsInput};
-ghost use Rattle.uxn_task_files.specs.Views.{bytes_observed, input_observed};
+ghost use Rattle.uxn_inquiry.specs.Inquires.{Inquires, Says};
+ghost use Rattle.uxn_task_files.specs.Inputs.{requested_text, text_of, limit_of, long_refusal, kind_text, too_long};
 
-use super::refusal::{Halt, Refusal};
+use super::refusal::Refusal;
 use debug_commands::CommandKind;
 use play_script::ScriptKind;
 use setup_lines::SetupKind;
@@ -14,7 +12,8 @@ use std::alloc::Global;
 use tal_assembly::{IncludeKind, SourceFault};
 use tal_symbols::SymbolKind;
 use tal_words::FaultKind;
-use uxn_io_traits::{Bytes, FileBytes, Path, Tree, read_file};
+use uxn_inquiry::{Halt, read_whole};
+use uxn_io_traits::{Bytes, FileBytes, Path, Tree};
 use uxn_memory::LARGEST_ROM;
 
 /// What a file is read as.
@@ -68,8 +67,8 @@ impl InputKind {
     }
 
     /// The bytes of a file that is there and not too long.
-    fn kind_text(self, alloc: Global, path: &Path, file: FileBytes) -> Result<Bytes, Halt>
-        ensures follows { FollowsDefinition (λ text. text.list) result (kind_text self path.now file) }
+    fn kind_text(self, alloc: Global, path: &Path, file: FileBytes) -> Result<Bytes, Halt<Refusal>>
+        ensures says { Says (λ text. text.list) (kind_text self path.now file) result }
         ensures limit { KeepsLimit (limit_of self) file → IfOk result (λ text. length text.list ≤ limit_of self) }
     {
         match file {
@@ -99,11 +98,11 @@ pub fn read_text<T: Tree>(
     kind: InputKind,
     path: &Path,
     tree: &mut T,
-) -> Result<Bytes, Halt>
-    ensures text { ReadsInput (λ text. text.list) (bytes_observed kind path.now) (kind_text kind path.now) (T.state tree.old) (T.state tree.new) result }
+) -> Result<Bytes, Halt<Refusal>>
+    ensures text { Inquires (λ text. text.list) (text_of kind path.now) (T.state tree.old) (T.state tree.new) result }
     ensures limit { IfOk result (λ text. length text.list ≤ limit_of kind) }
 {
-    let file = read_file(alloc, tree, path, kind.limit())?;
+    let file = read_whole(alloc, tree, path, kind.limit())?;
     kind.kind_text(alloc, path, file)
 }
 
@@ -113,12 +112,14 @@ pub fn read_requested<T: Tree>(
     kind: InputKind,
     path: &Option<Path>,
     tree: &mut T,
-) -> Result<Option<Bytes>, Halt>
-    ensures { ReadsInput (option_map (λ text. text.list)) (input_observed kind path.now) (requested_text kind path.now)
-        (T.state tree.old) (T.state tree.new) result }
+) -> Result<Option<Bytes>, Halt<Refusal>>
+    ensures { Inquires (option_map (λ text. text.list)) (requested_text kind path.now) (T.state tree.old) (T.state tree.new) result }
 {
     match path {
-        Some(path) => Ok(Some(read_text(alloc, kind, path, tree)?)),
+        Some(path) => {
+            let text = read_text(alloc, kind, path, tree)?;
+            Ok(Some(text))
+        }
         None => Ok(None),
     }
 }

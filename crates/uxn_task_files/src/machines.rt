@@ -1,27 +1,24 @@
 //! What `line` is given: a setup, and the machines that it names.
-ghost use Rattle.std.specs.Prelude.{◌≡◌, ◌≤◌, map, length, Ok, IfOk};
+ghost use Rattle.std.specs.Prelude.{[], ◌≡◌, ◌≤◌, length, IfOk};
 ghost use Rattle.std.specs.List.{All};
 ghost use Rattle.uxn_memory.specs.Bytes.{largest_rom};
 ghost use Rattle.play_script.specs.Held.{bytes_in};
-ghost use Rattle.setup_lines.specs.Setups.{setup_of};
-ghost use Rattle.uxn_task_files.specs.Accepted.{accepted_machine, accepted_machines, accepted_roms, machines_given};
-ghost use Rattle.uxn_task_files.specs.FollowsDefinition.{FollowsDefinition};
+ghost use Rattle.setup_lines.specs.Setups.{setup_of as setup_in};
+ghost use Rattle.uxn_inquiry.specs.Inquires.{Inquires, Says};
+ghost use Rattle.uxn_inquiry.specs.Inquiry.{gather};
+ghost use Rattle.uxn_task_files.specs.Accepted.{machine_of, machines_in, machines_of, setup_of, validated_setup};
 ghost use Rattle.uxn_task_files.specs.Held.{AreMachines, model_of_machines};
-ghost use Rattle.uxn_task_files.specs.Reading.{ReadsInput};
-ghost use Rattle.uxn_task_files.specs.Setup.{accepted_setup, validated_setup};
-ghost use Rattle.uxn_task_files.specs.Views.{ReadsInputs, bytes_observed, named_files_observed, source_observed, sources_observed};
-ghost use Rattle.uxn_task_files.specs.declared.inputs.InputKind.TheVariants as kinds;
 
 use super::inputs::{InputKind, read_text};
-use super::refusal::{Halt, Refusal};
+use super::refusal::Refusal;
 use super::scripts::accept_script;
 use super::sources::accept_source;
 use play_script::Script;
 use setup_lines::{Setup, SetupStop, read_setup};
 use std::alloc::Global;
-use uxn_arguments::{Command, Task};
+use uxn_arguments::Task;
+use uxn_inquiry::Halt;
 use uxn_io_traits::{Bytes, Path, Tree};
-use uxn_opcodes::Stop;
 
 /// What a line is made of, once all that its setup names is accepted.
 #[derive(Drop)]
@@ -35,55 +32,61 @@ pub struct LineInputs {
 }
 
 /// The setup of a text.
-fn validate_setup(alloc: Global, text: &[u8]) -> Result<Setup, Halt>
-    ensures { FollowsDefinition (λ setup. setup) result (validated_setup (setup_of text.now)) }
+fn validate_setup(alloc: Global, text: &[u8]) -> Result<Setup, Halt<Refusal>>
+    ensures { Says (λ setup. setup) (validated_setup (setup_in text.now)) result }
 {
     match read_setup(alloc, text) {
         Ok(setup) => Ok(setup),
         Err(SetupStop::Refused { line, kind }) => {
             Err(Halt::Refused(Refusal::BadSetup(line, kind)))
         }
-        Err(SetupStop::NoMemory) => Err(Halt::Stopped(Stop::NoMemory)),
+        Err(SetupStop::NoMemory) => Err(Halt::NoMemory),
     }
 }
 
 /// The setup at a path.
-fn accept_setup<T: Tree>(alloc: Global, path: &Path, tree: &mut T) -> Result<Setup, Halt>
-    ensures { ReadsInput (λ setup. setup) (bytes_observed kinds.Setup path.now) (accepted_setup path.now)
-        (T.state tree.old) (T.state tree.new) result }
+fn accept_setup<T: Tree>(alloc: Global, path: &Path, tree: &mut T) -> Result<Setup, Halt<Refusal>>
+    ensures { Inquires (λ setup. setup) (setup_of path.now) (T.state tree.old) (T.state tree.new) result }
 {
     let text = read_text(alloc, InputKind::Setup, path, tree)?;
     validate_setup(alloc, text.as_slice())
 }
 
 /// The ROM of the source in a file, where it is accepted.
-fn accept_machine<T: Tree>(alloc: Global, path: &Path, tree: &mut T) -> Result<Bytes, Halt>
-    ensures rom { ReadsInput (λ rom. rom.list) (source_observed path.now) (accepted_machine path.now)
-        (T.state tree.old) (T.state tree.new) result }
+fn accept_machine<T: Tree>(alloc: Global, path: &Path, tree: &mut T) -> Result<Bytes, Halt<Refusal>>
+    ensures rom { Inquires (λ rom. rom.list) (machine_of path.now) (T.state tree.old) (T.state tree.new) result }
     ensures fits { IfOk result (λ rom. length rom.list ≤ largest_rom) }
 {
     let source = accept_source(alloc, path, tree)?;
-    Ok(Bytes::new(alloc, source.assembly().rom())?)
+    let rom = Bytes::new(alloc, source.assembly().rom())?;
+    Ok(rom)
 }
 
 /// The ROMs of all machines, one after the other.
-fn accept_roms<T: Tree>(alloc: Global, paths: &[Path], tree: &mut T) -> Result<Vec<Bytes>, Halt>
-    ensures roms { ReadsInput (λ roms. bytes_in roms.items) (sources_observed paths.now) (accepted_roms paths.now)
-        (T.state tree.old) (T.state tree.new) result }
+fn accept_roms<T: Tree>(
+    alloc: Global,
+    paths: &[Path],
+    tree: &mut T,
+) -> Result<Vec<Bytes>, Halt<Refusal>>
+    ensures roms { Inquires (λ roms. bytes_in roms.items) (gather machine_of [] paths.now) (T.state tree.old) (T.state tree.new) result }
     ensures count { IfOk result (λ roms. length roms.items ≡ length paths.now) }
     ensures fit { IfOk result (λ roms. All (λ rom. length rom.list ≤ largest_rom) roms.items) }
 {
     let mut roms = Vec::new(alloc);
     for path in paths {
-        roms.push(accept_machine(alloc, path, tree)?)?;
+        let rom = accept_machine(alloc, path, tree)?;
+        roms.push(rom)?;
     }
     Ok(roms)
 }
 
 /// The files that an accepted setup names.
-fn accept_machines<T: Tree>(alloc: Global, setup: Setup, tree: &mut T) -> Result<LineInputs, Halt>
-    ensures reads { ReadsInput model_of_machines (named_files_observed (Ok setup)) (accepted_machines setup)
-        (T.state tree.old) (T.state tree.new) result }
+fn accept_machines<T: Tree>(
+    alloc: Global,
+    setup: Setup,
+    tree: &mut T,
+) -> Result<LineInputs, Halt<Refusal>>
+    ensures reads { Inquires model_of_machines (machines_in setup) (T.state tree.old) (T.state tree.new) result }
     ensures machines { IfOk result (λ inputs. AreMachines inputs.setup.sources inputs.roms.items) }
 {
     let roms = accept_roms(alloc, setup.sources(), tree)?;
@@ -96,9 +99,12 @@ fn accept_machines<T: Tree>(alloc: Global, setup: Setup, tree: &mut T) -> Result
 }
 
 /// The machines of the setup of a task.
-pub fn read_machines<T: Tree>(alloc: Global, task: &Task, tree: &mut T) -> Result<LineInputs, Halt>
-    requires { task.now.command ≡ Command.Line }
-    ensures reads { ReadsInputs model_of_machines task.now (machines_given task.now) (T.state tree.old) (T.state tree.new) result }
+pub fn read_machines<T: Tree>(
+    alloc: Global,
+    task: &Task,
+    tree: &mut T,
+) -> Result<LineInputs, Halt<Refusal>>
+    ensures reads { Inquires model_of_machines (machines_of task.now) (T.state tree.old) (T.state tree.new) result }
     ensures machines { IfOk result (λ inputs. AreMachines inputs.setup.sources inputs.roms.items) }
 {
     let setup = accept_setup(alloc, &task.file, tree)?;

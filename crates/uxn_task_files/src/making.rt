@@ -1,11 +1,9 @@
 //! The outputs of a run, which are made before it.
 ghost use Rattle.std.specs.Prelude.{◌≡◌, ◌++◌, IfOk, OnOk, ◌∷◌, []};
-ghost use Rattle.uxn_io_traits.specs.Ended.{TreeLooked};
 ghost use Rattle.uxn_task_files.specs.Outputs.{paths_of};
-ghost use Rattle.uxn_task_files.specs.Blame.{halted_by_tree};
-ghost use Rattle.uxn_task_files.specs.Made.{AreApart, LooksAt, MakesOutputs};
+ghost use Rattle.uxn_task_files.specs.Made.{AreApart, MakesOutputs};
 
-use super::outputs::{Output, first_blocked, first_unmade, make_all};
+use super::outputs::{Output, look_at, make_all};
 use super::refusal::{Halt, Refusal};
 use std::alloc::{AllocError, Global};
 use uxn_io_traits::{Path, Tree};
@@ -31,20 +29,7 @@ pub fn empty_outputs(alloc: Global, paths: &[Path]) -> Result<Vec<Output>, Alloc
     Ok(outputs)
 }
 
-/// Refuses the first output that cannot be made, or is an included file. Nothing changes.
-pub fn look_at<T: Tree>(included: &[Path], outputs: &[Output], tree: &mut T) -> Result<(), Halt>
-    ensures looks { LooksAt included.now (paths_of outputs.now) (T.state tree.old).contents result }
-    ensures looked { TreeLooked (halted_by_tree result) (T.state tree.old) (T.state tree.new) }
-{
-    let blocked = first_blocked(tree, outputs)?;
-    match first_unmade(&blocked, included, outputs) {
-        Some(path) => Err(Halt::Refused(Refusal::NoOutput(path))),
-        None => Ok(()),
-    }
-}
-
 /// Makes the files that a run writes, unless one of them cannot be made or is an included file: then it makes none.
-#[tactic(auto, using(crate::proofs::MakingLemmas::making))]
 pub fn make_outputs<T: Tree>(
     included: &[Path],
     outputs: &[Output],

@@ -1,17 +1,17 @@
 //! The program that is run: a ROM, or a source that is assembled.
 ghost use Rattle.std.specs.Prelude.{◌≡◌, ◌≤◌, length, IfOk};
 ghost use Rattle.uxn_memory.specs.Bytes.{largest_rom};
-ghost use Rattle.uxn_task_files.specs.Accepted.{accepted_program};
+ghost use Rattle.uxn_inquiry.specs.Inquires.{Inquires};
+ghost use Rattle.uxn_task_files.specs.Accepted.{program_of};
 ghost use Rattle.uxn_task_files.specs.Held.{model_of_program};
-ghost use Rattle.uxn_task_files.specs.Reading.{ReadsInput};
-ghost use Rattle.uxn_task_files.specs.Views.{program_observed};
 
 use super::inputs::{InputKind, read_text};
-use super::refusal::Halt;
+use super::refusal::Refusal;
 use super::sources::accept_source;
 use std::alloc::Global;
 use tal_assembly::AssembledSource;
 use tal_words::Label;
+use uxn_inquiry::Halt;
 use uxn_io_traits::{Bytes, Path, Tree};
 
 /// A program that is accepted.
@@ -61,9 +61,8 @@ pub fn accept_program<T: Tree>(
     rom: bool,
     path: &Path,
     tree: &mut T,
-) -> Result<Program, Halt>
-    ensures loads { ReadsInput model_of_program (program_observed rom path.now) (accepted_program rom path.now)
-        (T.state tree.old) (T.state tree.new) result }
+) -> Result<Program, Halt<Refusal>>
+    ensures loads { Inquires model_of_program (program_of rom path.now) (T.state tree.old) (T.state tree.new) result }
     ensures room { IfOk result (λ program. length (model_of_program program).rom ≤ largest_rom) }
 {
     if rom {

@@ -10,10 +10,10 @@ use debug_commands::CommandKind;
 use play_script::ScriptKind;
 use setup_lines::SetupKind;
 use std::alloc::{AllocError, AllocFailed, Global};
-use tal_assembly::{SourceFault, SourceStop};
+use tal_assembly::SourceFault;
 use tal_symbols::SymbolKind;
-use uxn_arguments::{WordFault, WordStop};
-use uxn_io_traits::{Bytes, Failed, Path, ReadStop, Sink, decimal, put_all};
+use uxn_inquiry::Halt as InquiryHalt;
+use uxn_io_traits::{Bytes, Failed, Path, Sink, decimal, put_all};
 use uxn_opcodes::Stop;
 
 /// Why a call does nothing but put one line on the error output.
@@ -88,46 +88,17 @@ impl From<Failed> for Halt {
     }
 }
 
-impl From<WordStop> for Halt {
+impl From<InquiryHalt<Refusal>> for Halt {
     ghost use Rattle.std.specs.Prelude.{◌≡◌};
-    ghost use Rattle.uxn_task_files.specs.Blame.{halt_of_words};
+    ghost use Rattle.uxn_task_files.specs.Blame.{halt_of_inquiry};
 
-    ghost from_gives = { λ stop halt. halt ≡ halt_of_words stop };
+    ghost from_gives = { λ inner halt. halt ≡ halt_of_inquiry inner };
 
-    fn from(stop: WordStop) -> Halt {
-        match stop {
-            WordStop::Refused(WordFault::NotUnderstood) => Halt::Refused(Refusal::NotUnderstood),
-            WordStop::Refused(WordFault::NoPath(word)) => Halt::Refused(Refusal::NoPath(word)),
-            WordStop::NoMemory => Halt::Stopped(Stop::NoMemory),
-        }
-    }
-}
-
-impl From<SourceStop> for Halt {
-    ghost use Rattle.std.specs.Prelude.{◌≡◌};
-    ghost use Rattle.uxn_task_files.specs.Blame.{halt_of_source};
-
-    ghost from_gives = { λ stop halt. halt ≡ halt_of_source stop };
-
-    fn from(stop: SourceStop) -> Halt {
-        match stop {
-            SourceStop::Refused(fault) => Halt::Refused(Refusal::Faulty(fault)),
-            SourceStop::TreeFault => Halt::Stopped(Stop::TreeFault),
-            SourceStop::NoMemory => Halt::Stopped(Stop::NoMemory),
-        }
-    }
-}
-
-impl From<ReadStop> for Halt {
-    ghost use Rattle.std.specs.Prelude.{◌≡◌};
-    ghost use Rattle.uxn_task_files.specs.Blame.{halt_of_read};
-
-    ghost from_gives = { λ stop halt. halt ≡ halt_of_read stop };
-
-    fn from(stop: ReadStop) -> Halt {
-        match stop {
-            ReadStop::Failed => Halt::Stopped(Stop::TreeFault),
-            ReadStop::NoMemory => Halt::Stopped(Stop::NoMemory),
+    fn from(inner: InquiryHalt<Refusal>) -> Halt {
+        match inner {
+            InquiryHalt::Refused(refusal) => Halt::Refused(refusal),
+            InquiryHalt::TreeFault => Halt::Stopped(Stop::TreeFault),
+            InquiryHalt::NoMemory => Halt::Stopped(Stop::NoMemory),
         }
     }
 }

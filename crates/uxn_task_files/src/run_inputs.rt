@@ -1,13 +1,13 @@
 //! What `play` and `debug` are given.
 ghost use Rattle.std.specs.Prelude.{◌≡◌, ◌≤◌, length, IfOk};
 ghost use Rattle.uxn_memory.specs.Bytes.{largest_rom};
-ghost use Rattle.uxn_task_files.specs.Accepted.{run_given};
+ghost use Rattle.uxn_inquiry.specs.Inquires.{Inquires};
+ghost use Rattle.uxn_task_files.specs.Accepted.{commands_input, run_of, symbols_input};
 ghost use Rattle.uxn_task_files.specs.Held.{model_of_debug_labels, model_of_inputs, model_of_program};
-ghost use Rattle.uxn_task_files.specs.Views.{ReadsInputs, RunsMachine, commands_input, symbols_input};
 
 use super::commands::accept_commands;
 use super::program::{Program, accept_program};
-use super::refusal::Halt;
+use super::refusal::Refusal;
 use super::scripts::accept_script;
 use super::symbols::{accept_symbols, labels_or};
 use debug_commands::DebugCommand;
@@ -15,6 +15,7 @@ use play_script::Script;
 use std::alloc::Global;
 use tal_words::Label;
 use uxn_arguments::{Command, Role, Task};
+use uxn_inquiry::Halt;
 use uxn_io_traits::{Path, Tree};
 
 /// The file of symbols that a run is given.
@@ -55,9 +56,12 @@ pub struct RunInputs {
 }
 
 /// Reads the inputs of a run, one after the other.
-pub fn read_run<T: Tree>(alloc: Global, task: &Task, tree: &mut T) -> Result<RunInputs, Halt>
-    requires { RunsMachine task.now.command }
-    ensures reads { ReadsInputs model_of_inputs task.now (run_given task.now.command task.now) (T.state tree.old) (T.state tree.new) result }
+pub fn read_run<T: Tree>(
+    alloc: Global,
+    task: &Task,
+    tree: &mut T,
+) -> Result<RunInputs, Halt<Refusal>>
+    ensures reads { Inquires model_of_inputs (run_of task.now.command task.now) (T.state tree.old) (T.state tree.new) result }
     ensures room { IfOk result (λ inputs. length (model_of_program inputs.program).rom ≤ largest_rom) }
 {
     let program = accept_program(alloc, task.rom, &task.file, tree)?;

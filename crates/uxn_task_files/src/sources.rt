@@ -1,15 +1,15 @@
 //! Sources that are read.
 ghost use Rattle.std.specs.Prelude.{◌≡◌, Ok, IfOk};
 ghost use Rattle.tal_rom.specs.Assembly.{IsAssembled};
-ghost use Rattle.uxn_task_files.specs.Accepted.{accepted_source};
-ghost use Rattle.uxn_task_files.specs.Held.{model_of_source};
-ghost use Rattle.uxn_task_files.specs.Reading.{ReadsInput};
-ghost use Rattle.uxn_task_files.specs.Views.{source_observed};
+ghost use Rattle.uxn_inquiry.specs.Inquires.{Inquires};
+ghost use Rattle.uxn_task_files.specs.Accepted.{source_of};
+ghost use Rattle.tal_assembly.specs.Sources.{sourced_of};
 
 use super::inputs::{InputKind, read_text};
-use super::refusal::Halt;
+use super::refusal::Refusal;
 use std::alloc::Global;
 use tal_assembly::{AssembledSource, read_source};
+use uxn_inquiry::Halt;
 use uxn_io_traits::{Path, Tree};
 
 /// The source at a path with the files that it includes, unless no file is there or there is a fault.
@@ -17,12 +17,15 @@ pub fn accept_source<T: Tree>(
     alloc: Global,
     path: &Path,
     tree: &mut T,
-) -> Result<AssembledSource, Halt>
-    ensures source { ReadsInput model_of_source (source_observed path.now) (accepted_source path.now)
-        (T.state tree.old) (T.state tree.new) result }
+) -> Result<AssembledSource, Halt<Refusal>>
+    ensures source { Inquires sourced_of (source_of path.now) (T.state tree.old) (T.state tree.new) result }
     ensures assembled { IfOk result (λ source. IsAssembled source.text (Ok source.assembly)) }
 {
     let text = read_text(alloc, InputKind::Source, path, tree)?;
-    let source = read_source(alloc, tree, path, text)?;
-    Ok(source)
+    match read_source(alloc, tree, path, text) {
+        Ok(source) => Ok(source),
+        Err(Halt::Refused(fault)) => Err(Halt::Refused(Refusal::Faulty(fault))),
+        Err(Halt::TreeFault) => Err(Halt::TreeFault),
+        Err(Halt::NoMemory) => Err(Halt::NoMemory),
+    }
 }

@@ -1,22 +1,19 @@
 //! The labels of a symbol file.
 ghost use Rattle.std.specs.Prelude.{◌≡◌, option_map, unwrap_or};
-ghost use Rattle.uxn_task_files.specs.Accepted.{accepted_symbols, said_symbols};
-ghost use Rattle.uxn_task_files.specs.FollowsDefinition.{FollowsDefinition};
-ghost use Rattle.uxn_task_files.specs.Reading.{ReadsInput};
-ghost use Rattle.uxn_task_files.specs.Views.{input_observed};
-ghost use Rattle.uxn_task_files.specs.declared.inputs.InputKind.TheVariants as kinds;
+ghost use Rattle.uxn_inquiry.specs.Inquires.{Inquires, Says};
+ghost use Rattle.uxn_task_files.specs.Accepted.{symbols_of, said_symbols};
 
 use super::inputs::{InputKind, read_requested};
-use super::refusal::{Halt, Refusal};
+use super::refusal::Refusal;
 use std::alloc::Global;
 use tal_symbols::{SymbolStop, read_symbols};
 use tal_words::Label;
+use uxn_inquiry::Halt;
 use uxn_io_traits::{Bytes, Path, Tree};
-use uxn_opcodes::Stop;
 
 /// The labels of a symbol file, where there is one.
-fn said_symbols(alloc: Global, text: &Option<Bytes>) -> Result<Option<Vec<Label>>, Halt>
-    ensures { FollowsDefinition (option_map (λ labels. labels.items)) result (said_symbols (option_map (λ text. text.list) text.now)) }
+fn said_symbols(alloc: Global, text: &Option<Bytes>) -> Result<Option<Vec<Label>>, Halt<Refusal>>
+    ensures { Says (option_map (λ labels. labels.items)) (said_symbols (option_map (λ text. text.list) text.now)) result }
 {
     let Some(text) = text else {
         return Ok(None);
@@ -26,7 +23,7 @@ fn said_symbols(alloc: Global, text: &Option<Bytes>) -> Result<Option<Vec<Label>
         Err(SymbolStop::Refused { entry, kind }) => {
             Err(Halt::Refused(Refusal::BadSymbols(entry, kind)))
         }
-        Err(SymbolStop::NoMemory) => Err(Halt::Stopped(Stop::NoMemory)),
+        Err(SymbolStop::NoMemory) => Err(Halt::NoMemory),
     }
 }
 
@@ -35,9 +32,8 @@ pub fn accept_symbols<T: Tree>(
     alloc: Global,
     path: &Option<Path>,
     tree: &mut T,
-) -> Result<Option<Vec<Label>>, Halt>
-    ensures { ReadsInput (option_map (λ labels. labels.items)) (input_observed kinds.Symbols path.now) (accepted_symbols path.now)
-        (T.state tree.old) (T.state tree.new) result }
+) -> Result<Option<Vec<Label>>, Halt<Refusal>>
+    ensures { Inquires (option_map (λ labels. labels.items)) (symbols_of path.now) (T.state tree.old) (T.state tree.new) result }
 {
     let text = read_requested(alloc, InputKind::Symbols, path, tree)?;
     said_symbols(alloc, &text)

@@ -3,15 +3,16 @@ ghost use Rattle.std.specs.Prelude.{◌≡◌, ◌≤◌, map, string_bytes, IfO
 ghost use Rattle.uxn_arguments.specs.Places.{HasApartOutputs};
 ghost use Rattle.uxn_task_files.specs.Request.{apart};
 ghost use Rattle.uxn_task_files.specs.Request.{request};
-ghost use Rattle.uxn_task_files.specs.FollowsDefinition.{FollowsDefinition};
+ghost use Rattle.uxn_inquiry.specs.Inquires.{Says};
 
-use super::refusal::{Halt, Refusal};
+use super::refusal::Refusal;
 use std::alloc::Global;
-use uxn_arguments::{Task, read_words};
+use uxn_arguments::{Task, WordFault, WordStop, read_words};
+use uxn_inquiry::Halt;
 
 /// A task whose outputs do not clash, or else the first one that does.
-fn apart(alloc: Global, task: Task) -> Result<Task, Halt>
-    ensures follows { FollowsDefinition (λ found. found) result (apart task) }
+fn apart(alloc: Global, task: Task) -> Result<Task, Halt<Refusal>>
+    ensures says { Says (λ found. found) (apart task) result }
     ensures apart { IfOk result HasApartOutputs }
     ensures same { IfOk result (λ found. found ≡ task) }
 {
@@ -23,11 +24,19 @@ fn apart(alloc: Global, task: Task) -> Result<Task, Halt>
 
 /// What the words ask for, unless they are not legal or name no path.
 #[tactic(auto, unfolding(crate::specs::Request::request))]
-pub fn request(alloc: Global, words: &[String]) -> Result<Task, Halt>
-    ensures follows { FollowsDefinition (λ task. task) result (request (map string_bytes words.now)) }
+pub fn request(alloc: Global, words: &[String]) -> Result<Task, Halt<Refusal>>
+    ensures says { Says (λ task. task) (request (map string_bytes words.now)) result }
     ensures apart { IfOk result HasApartOutputs }
     ensures budget { IfOk result (λ task. 1 ≤ task.budget) }
 {
-    let task = read_words(alloc, words)?;
-    apart(alloc, task)
+    match read_words(alloc, words) {
+        Ok(task) => apart(alloc, task),
+        Err(WordStop::Refused(WordFault::NotUnderstood)) => {
+            Err(Halt::Refused(Refusal::NotUnderstood))
+        }
+        Err(WordStop::Refused(WordFault::NoPath(word))) => {
+            Err(Halt::Refused(Refusal::NoPath(word)))
+        }
+        Err(WordStop::NoMemory) => Err(Halt::NoMemory),
+    }
 }

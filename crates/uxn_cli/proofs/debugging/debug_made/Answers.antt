@@ -1,5 +1,6 @@
 use Rattle.uxn_cli.proofs.Common.{requested_output, outside-of-tree, is_err, ◌≡◌, ◌∙◌, refl, rules, Err, log_text, debugging, role_path}
 use Rattle.uxn_arguments.specs.declared.role.Role.TheVariants as role
+use Rattle.uxn_io_traits.specs.EndedLaws.{refuses-then}
 use Rattle.uxn_cli.proofs.ChangeLemmas.{filled-of-tree}
 use Rattle.uxn_cli.proofs.RunLemmas.{runs-as, runs-first, runs-then, stays-if, kept-log}
 use Rattle.uxn_cli.proofs.debugging.debug_made.Goals as goal
@@ -19,4 +20,7 @@ returns-clause-runs g c = λ commands labels new.
     rw (c.or.ensures, c.and.ensures) (runs-then _ _ _ _ _ (role_path c.args.task.now role.Log) _ (log_text (debugging c.args.task.now commands labels)) _ _ c.in_ok-end.end
     (runs-as _ _ _ _ _ _ _ _ _ (λ trace. refl) (λ watched. refl) c.in_ok-end.ensures.runs) (λ root_view root files. c.log.ensures ∙ kept root_view (c.in_ok-end.ensures.watcher root_view root files))
     c.write_text.result
-    (outside-of-tree _ (is_err c.write_text.result) _ _ (g.O.Sink.state c.run_made.new.host.out.now) (g.E.Sink.state c.run_made.new.host.err.now) (filled-of-tree (requested_output (role_path c.args.task.now role.Log) c.log.result.now)) (rw c.path.ensures at c.write_text.ensures)))
+    (outside-of-tree _ (is_err c.write_text.result) _ _ (g.O.Sink.state c.run_made.new.host.out.now) (g.E.Sink.state c.run_made.new.host.err.now) (filled-of-tree (requested_output (role_path c.args.task.now role.Log) c.log.result.now)) (rw c.path.ensures at c.write_text.ensures.ended)))
+
+pub returns-clause-refusals : goal.returns-clause-refusals
+returns-clause-refusals g c = λ none. refuses-then _ _ _ (c.in_ok-end.ensures.refusals none) c.write_text.ensures.refused

@@ -1,5 +1,5 @@
-use Rattle.uxn_cli.proofs.Common.{rules, subst, request, map, PassesNoneOver}
-use Rattle.std.proofs.Common.{string_bytes}
+use Rattle.uxn_cli.proofs.Common.{rules}
+use Rattle.uxn_cli.proofs.RefusalLemmas.{passes-as}
 use Rattle.uxn_cli.proofs.ClauseLemmas.{has_statuses, ends_early}
 use Rattle.uxn_cli.proofs.PrefixLemmas.{is_cut_short}
 use Rattle.uxn_cli.proofs.IsolationLemmas.{gives_the_same}
@@ -19,10 +19,8 @@ pub returns-clause-cut_off : goal.returns-clause-cut_off
 returns-clause-cut_off g c = let fact = is_cut_short _ c.status_of.ensures.comes in search (rules, fact)
 
 pub returns-clause-same : goal.returns-clause-same
-returns-clause-same g c = let fact = gives_the_same c.a_source_looks_at_its_files_alone.ensures _ c.status_of.ensures.comes in search (rules, fact)
+returns-clause-same g c = let fact = gives_the_same _ c.status_of.ensures.comes in search (rules, fact)
 
 -- no call of `create` that was refused is ignored
 pub returns-clause-refusals : goal.returns-clause-refusals
-returns-clause-refusals g c =
-    subst (λ tree. PassesNoneOver (request (map string_bytes c.args.words.now)) (g.T.Tree.state c.args.tree.now) (g.T.Tree.state tree) c.status_of.result)
-    (search rules) c.status_of.ensures.refusals
+returns-clause-refusals g c = passes-as g.T.Tree.state g.E.Sink.state _ (g.T.Tree.state c.args.tree.now) _ _ (g.E.Sink.state c.args.err.now) _ _ _ (search rules) (search rules) c.status_of.ensures.refusals

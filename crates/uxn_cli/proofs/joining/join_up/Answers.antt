@@ -1,20 +1,25 @@
-use Rattle.uxn_cli.proofs.Common.{◌≡◌, sym, ◌∙◌, true, false, true≢false, rules, Ok, Err, model_of_machines}
-use Rattle.uxn_cli.proofs.JoiningLemmas.{line-unread, line-read, line-denied, line-accepted}
+use Rattle.uxn_cli.proofs.Common.{◌≡◌, sym, ◌∙◌, true, false, rules, Ok, Err, model_of_machines}
+unfoldable use Rattle.uxn_cli.proofs.Common.{line_plan_of}
+use Rattle.uxn_inquiry.specs.Laws.{inquires-stop, inquires-last}
+use Rattle.uxn_cli.proofs.JoiningLemmas.{line-denied, line-accepted}
 use Rattle.uxn_cli.proofs.joining.join_up.Goals as goal
 
 pub returns-in_err-inputs-clause-joins : goal.returns-in_err-inputs-clause-joins
+unfolding line_plan_of
 returns-in_err-inputs-clause-joins g c =
     let result : c.from_residual.result ≡ Err c.in_err-inputs.field-0.0 = search rules in
-    rw result (line-unread c.args.task.now c.requires _ _ _ c.in_err-inputs.ensures.reads)
+    rw result (inquires-stop _ _ _ _ _ _ _ c.in_err-inputs.ensures.reads)
 
 pub returns-then-not-are_of_console-clause-joins : goal.returns-then-not-are_of_console-clause-joins
+unfolding line_plan_of
 returns-then-not-are_of_console-clause-joins g c =
     let no : c.are_of_console.result ≡ false = search rules in
-    line-read c.args.task.now c.requires _ _ _ _ c.in_ok-inputs.ensures.reads
-    (line-denied (model_of_machines c.in_ok-inputs.inputs) (λ of. true≢false (sym (c.are_of_console.ensures.1 (rw c.events.ensures of)) ∙ no)))
+    inquires-last _ _ _ _ _ _ _ _ c.in_ok-inputs.ensures.reads
+    (line-denied (model_of_machines c.in_ok-inputs.inputs) (rw c.events.ensures at (sym c.are_of_console.ensures ∙ no)))
 
 pub returns-clause-joins : goal.returns-clause-joins
+unfolding line_plan_of
 returns-clause-joins g c =
     let is : c.are_of_console.result ≡ true = search rules in
-    line-read c.args.task.now c.requires _ _ _ (Ok c.in_ok-inputs.inputs) c.in_ok-inputs.ensures.reads
-    (line-accepted (model_of_machines c.in_ok-inputs.inputs) (rw c.events.ensures at (c.are_of_console.ensures.0 is)))
+    inquires-last _ _ _ _ _ _ _ (Ok c.in_ok-inputs.inputs) c.in_ok-inputs.ensures.reads
+    (line-accepted (model_of_machines c.in_ok-inputs.inputs) (rw c.events.ensures at (sym c.are_of_console.ensures ∙ is)))

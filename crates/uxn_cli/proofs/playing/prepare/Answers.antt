@@ -1,16 +1,21 @@
-use Rattle.uxn_cli.proofs.Common.{◌≡◌, rules, Err, NoMemory, Stopped, model_of_inputs}
-use Rattle.uxn_cli.proofs.ReadyLemmas.{reads-work}
+use Rattle.uxn_cli.proofs.Common.{◌≡◌, rules, Ok, Err, ap, sym}
+unfoldable use Rattle.uxn_cli.proofs.Common.{run_plan_of}
+use Rattle.uxn_inquiry.specs.declared.halt.Halt.TheVariants.{NoMemory}
+use Rattle.uxn_inquiry.specs.Laws.{inquires-stop, inquires-last}
 use Rattle.uxn_cli.proofs.playing.prepare.Goals as goal
 
 pub returns-in_err-inputs-clause-prepares : goal.returns-in_err-inputs-clause-prepares
+unfolding run_plan_of
 returns-in_err-inputs-clause-prepares g c =
     let result : c.from_residual.result ≡ Err c.in_err-inputs.field-0.0 = search rules in
-    rw result (reads-work c.args.task.now c.requires model_of_inputs _ _ (Err c.in_err-inputs.field-0.0) c.in_err-inputs.ensures.reads).accepts
+    rw result (inquires-stop _ _ _ _ _ _ _ c.in_err-inputs.ensures.reads)
 
-pub returns-in_err-ready-clause-looked : goal.returns-in_err-ready-clause-looked
-returns-in_err-ready-clause-looked g c =
-    let result : c.from_residual-in_err-ready.result ≡ Err (Stopped NoMemory) = search rules in
-    rw result c.in_ok-inputs.ensures.reads.looked
+pub returns-in_err-prepared-clause-prepares : goal.returns-in_err-prepared-clause-prepares
+unfolding run_plan_of
+returns-in_err-prepared-clause-prepares g c =
+    let result : c.from_residual-in_err-prepared.result ≡ Err NoMemory = search rules in
+    rw result (inquires-last _ _ _ _ _ _ _ _ c.in_ok-inputs.ensures.reads tt)
 
 pub returns-clause-prepares : goal.returns-clause-prepares
-returns-clause-prepares g c = c.in_ok-ready.ensures _ _ c.in_ok-inputs.ensures.reads
+unfolding run_plan_of
+returns-clause-prepares g c = inquires-last _ _ _ _ _ _ _ _ c.in_ok-inputs.ensures.reads (ap Ok (sym c.in_ok-prepared.ensures.plan))

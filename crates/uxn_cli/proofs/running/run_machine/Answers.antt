@@ -62,3 +62,14 @@ returns-in_err-tally-clause-runs g c =
       files = tt;
       code = tt;
     })
+
+-- without a root no file was refused
+pub returns-clause-refusals : goal.returns-clause-refusals
+returns-clause-refusals g c = λ none.
+    let devices = c.new-bus.ensures.devices_now in
+    let refusals = c.in_ok-tally.ensures.refusals (ap (λ devices. devices.root) devices ∙ none) in search (rules, refusals)
+
+pub returns-in_err-tally-clause-refusals : goal.returns-in_err-tally-clause-refusals
+returns-in_err-tally-clause-refusals g c = λ none.
+    let devices = c.new-bus.ensures.devices_now in
+    let refusals = c.in_err-tally.ensures.refusals (ap (λ devices. devices.root) devices ∙ none) in search (rules, refusals)

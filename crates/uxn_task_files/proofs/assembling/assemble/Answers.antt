@@ -1,16 +1,23 @@
-use Rattle.uxn_task_files.proofs.Common.{Err, refl, rules, ◌≡◌, source_files, model_of_files}
-use Rattle.uxn_task_files.proofs.CommandLemmas.{source-fits, source-met}
-use Rattle.uxn_task_files.proofs.ReadingLemmas.{prefix-inputs, prefix-denied, prefix-said, with_file}
+use Rattle.uxn_task_files.proofs.Common.{◌≡◌, Err, rules, inquires-stop, inquires-more, inquires-last, refl}
+unfoldable use Rattle.uxn_task_files.proofs.Common.{files_of}
+use Rattle.uxn_inquiry.specs.declared.halt.Halt.TheVariants.{NoMemory}
 use Rattle.uxn_task_files.proofs.assembling.assemble.Goals as goal
 
 pub returns-in_err-source : goal.returns-in_err-source
+unfolding files_of
 returns-in_err-source g c =
-    let task = c.args.task.now in
+    let q = c.in_err-source.ensures.source in
     let result : c.from_residual.result ≡ Err c.in_err-source.field-0.0 = search rules in
-    rw result (prefix-denied _ _ _ with_file _ _ _ (prefix-inputs task _) (source-fits task c.requires) _ _ (source_files task) model_of_files _ c.in_err-source.ensures.source (λ file refusal e. rw e refl))
+    rw result (search (rules, inquires-stop, inquires-more) depth 8)
+
+pub returns-in_err-outputs : goal.returns-in_err-outputs
+unfolding files_of
+returns-in_err-outputs g c =
+    let result : c.from_residual-in_err-outputs.result ≡ Err NoMemory = search rules in
+    rw result (inquires-last _ _ _ _ _ _ _ _ c.in_ok-source.ensures.source tt)
 
 pub returns : goal.returns
+unfolding files_of
 returns g c =
-    let task = c.args.task.now in
-    let p = c.in_ok-source.ensures.source in
-    prefix-said _ (source_files task) model_of_files _ _ _ _ (source-met task c.requires _ _ _ p) (rw (p.accepts.said_so, c.in_ok-outputs.ensures) refl)
+    let p0 = c.in_ok-source.ensures.source in
+    inquires-last _ _ _ _ _ _ _ _ p0 (rw c.in_ok-outputs.ensures refl)

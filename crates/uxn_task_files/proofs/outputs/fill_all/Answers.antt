@@ -1,4 +1,4 @@
-use Rattle.uxn_task_files.proofs.Common.{Err, false, rules, true, ◌≡◌, drop_all, drop_more, appending}
+use Rattle.uxn_task_files.proofs.Common.{Err, None, false, rules, true, ◌≡◌, drop_all, drop_more, appending}
 use Rattle.uxn_task_files.proofs.DidLemmas.{did-nothing, did-first, did-then, file-there, files-then}
 use Rattle.uxn_task_files.proofs.outputs.fill_all.Goals as goal
 
@@ -16,7 +16,7 @@ returns-in_err-append_all g c =
     let put = rw c.deref.ensures.value at c.in_err-append_all.ensures in
     let left = drop_more c.args.outputs.now c.loop-output.output-index output c.loop-output-test.true in
     let result : c.from_residual.result ≡ Err c.in_err-append_all.field-0.0 = search rules in
-    rw result (c.loop-output.invariant.rest true _ (rw (left, ← c.output-item.is) (did-first (appending output.path output.bytes.items) _ false _ _
+    rw result (c.loop-output.invariant.rest true _ (rw (left, ← c.output-item.is) (did-first (appending output.path output.bytes.items) _ None _ _
     (record { done = put.ended; refusals = put.refused }))))
 
 pub loop-output-preserved : goal.loop-output-preserved
@@ -25,7 +25,7 @@ loop-output-preserved g c =
     let put = rw c.deref.ensures.value at c.in_ok-append_all.ensures in
     let left = drop_more c.args.outputs.now c.loop-output.output-index output c.loop-output-test.true in
     record {
-      rest = λ failed now did. c.loop-output.invariant.rest failed now (rw (left, ← c.output-item.is) (did-then (appending output.path output.bytes.items) _ failed false _ _ now
+      rest = λ failed now did. c.loop-output.invariant.rest failed now (rw (left, ← c.output-item.is) (did-then (appending output.path output.bytes.items) _ failed None _ _ now
           (record { done = put.ended; refusals = put.refused }) did));
       files = files-then output _ _ _ (rw (left, ← c.output-item.is) at c.loop-output.invariant.files) put.ended;
     }

@@ -1,4 +1,4 @@
-use Rattle.uxn_task_files.proofs.Common.{Err, false, rules, true, ◌≡◌, drop_all, drop_more}
+use Rattle.uxn_task_files.proofs.Common.{Err, None, Some, false, rules, true, ◌≡◌, drop_all, drop_more}
 use Rattle.uxn_task_files.proofs.DidLemmas.{did-nothing, make-failed, make-then, can-then, is-unknown, make-refused, unknown-before}
 use Rattle.uxn_task_files.proofs.FreeLemmas.{output_among}
 use Rattle.uxn_task_files.proofs.outputs.make_all.Goals as goal
@@ -12,7 +12,7 @@ returns-in_err-create-clause-did g c =
     let left = drop_more c.args.outputs.now c.loop-output.output-index c.output-item.result c.loop-output-test.true in
     let can = rw (left, ← c.output-item.is) at c.loop-output.invariant.can in
     let result : c.from_residual.result ≡ Err c.in_err-create.field-0.0 = search rules in
-    rw result (c.loop-output.invariant.rest true false _ (rw (left, ← c.output-item.is) (make-failed c.output-item.result _ _ _ can made.ended made.refused)))
+    rw result (c.loop-output.invariant.rest true None _ (rw (left, ← c.output-item.is) (make-failed c.output-item.result _ _ _ can made.ended made.refused)))
 
 pub returns-then-not-branch : goal.returns-then-not-branch
 returns-then-not-branch g c =
@@ -21,7 +21,7 @@ returns-then-not-branch g c =
     let can = rw (left, ← c.output-item.is) at c.loop-output.invariant.can in
     let none = is-unknown c.output-item.result _ (g.T.Tree.state c.loop-output.tree) (g.T.Tree.state c.create.new.self) can (rw c.if-not-branch.true at made.answer) in
     record {
-      did = c.loop-output.invariant.rest false true _ (rw (left, ← c.output-item.is) (make-refused c.output-item.result _ _ _ can made.ended (rw c.if-not-branch.true at made.refused) none));
+      did = c.loop-output.invariant.rest false (Some c.output-item.result.path) _ (rw (left, ← c.output-item.is) (make-refused c.output-item.result _ _ _ can made.ended (rw c.if-not-branch.true at made.refused) none));
       unmade = record {
         unknown = c.loop-output.invariant.unknown none;
         among = output_among c.args.outputs.now c.loop-output.output-index c.output-item.result c.loop-output-test.true c.output-item.is;
@@ -43,4 +43,4 @@ loop-output-preserved g c =
 
 pub returns-clause-did : goal.returns-clause-did
 returns-clause-did g c =
-    c.loop-output.invariant.rest false false _ (rw (drop_all c.loop-output.output-index c.args.outputs.now c.loop-output-test.false) (did-nothing (g.T.Tree.state c.loop-output.tree)))
+    c.loop-output.invariant.rest false None _ (rw (drop_all c.loop-output.output-index c.args.outputs.now c.loop-output-test.false) (did-nothing (g.T.Tree.state c.loop-output.tree)))

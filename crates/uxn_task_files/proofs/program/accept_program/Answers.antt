@@ -1,21 +1,29 @@
-use Rattle.uxn_task_files.proofs.Common.{Err, refl, rules, true, ◌≡◌, accepted_program, model_of_program, bytes_observed, program_observed}
-use Rattle.uxn_task_files.proofs.ReadingLemmas.{prefix-none, prefix-more, prefix-denied, prefix-said, no_view}
-use Rattle.uxn_task_files.proofs.SourceLemmas.{put_bytes}
-use Rattle.uxn_task_files.specs.declared.inputs.InputKind.TheVariants as kinds
+use Rattle.uxn_task_files.proofs.Common.{◌≡◌, Err, Ok, ap, refl, rules, sourced_of, inquires-stop, inquires-last}
+unfoldable use Rattle.uxn_task_files.proofs.Common.{program_of}
+use Rattle.uxn_task_files.specs.Accepted.{loaded_source}
+use Rattle.uxn_task_files.specs.Held.{model_of_program}
+use Rattle.uxn_task_files.specs.declared.program.Program.TheVariants.{Source}
 use Rattle.uxn_task_files.proofs.program.accept_program.Goals as goal
 
 pub returns-in_err-rom-clause-loads : goal.returns-in_err-rom-clause-loads
+unfolding program_of
 returns-in_err-rom-clause-loads g c =
-    let path = c.args.path.now in
-    let start = g.T.Tree.state c.args.tree.now in
     let result : c.from_residual.result ≡ Err c.in_err-rom.field-0.0 = search rules in
-    rw (c.if-rom.true, result) (prefix-denied (program_observed true path) (bytes_observed kinds.Rom path) _ put_bytes _ start start
-    (prefix-none no_view.file (program_observed true path) start) (λ nodes e. refl) _ _ (accepted_program true path) model_of_program _ c.in_err-rom.ensures.text (λ file refusal e. rw e refl))
+    rw (c.if-rom.true, result) (inquires-stop _ _ _ _ _ _ _ c.in_err-rom.ensures.text)
+
+pub returns-in_err-source-clause-loads : goal.returns-in_err-source-clause-loads
+unfolding program_of
+returns-in_err-source-clause-loads g c =
+    let result : c.from_residual-in_err-source.result ≡ Err c.in_err-source.field-0.0 = search rules in
+    rw (c.if-rom.false, result) (inquires-stop _ _ _ _ _ _ _ c.in_err-source.ensures.source)
 
 pub returns-in_ok-rom-clause-loads : goal.returns-in_ok-rom-clause-loads
-returns-in_ok-rom-clause-loads g c =
-    let path = c.args.path.now in
-    let start = g.T.Tree.state c.args.tree.now in
-    let p = c.in_ok-rom.ensures.text in
-    rw c.if-rom.true (prefix-said _ (accepted_program true path) model_of_program _ _ _ _ (prefix-more (program_observed true path) (bytes_observed kinds.Rom path) _ put_bytes _ start start
-    (prefix-none no_view.file (program_observed true path) start) (λ nodes e. refl) _ _ _ p) (rw p.accepts.said_so refl))
+unfolding program_of
+returns-in_ok-rom-clause-loads g c = rw c.if-rom.true (inquires-last _ _ _ _ _ _ _ _ c.in_ok-rom.ensures.text refl)
+
+pub returns-in_ok-source-clause-loads : goal.returns-in_ok-source-clause-loads
+unfolding program_of
+returns-in_ok-source-clause-loads g c =
+    let source = c.in_ok-source.source in
+    let loaded : loaded_source (sourced_of source) ≡ model_of_program (Source source) = search rules in
+    rw c.if-rom.false (inquires-last _ _ _ _ _ _ _ _ c.in_ok-source.ensures.source (ap Ok loaded))

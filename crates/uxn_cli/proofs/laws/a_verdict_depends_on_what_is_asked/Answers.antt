@@ -1,0 +1,6 @@
+use Rattle.uxn_cli.proofs.Common.{inquiry_of}
+use Rattle.uxn_inquiry.specs.InquiryLaws.{same-answer}
+use Rattle.uxn_cli.proofs.laws.a_verdict_depends_on_what_is_asked.Goals as goal
+
+pub returns : goal.returns
+returns c = λ requested nodes other agree. same-answer nodes other (inquiry_of requested) agree
