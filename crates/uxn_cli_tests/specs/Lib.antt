@@ -1,2 +1,3 @@
 pub mod Retrying
 pub mod RetryingLaws
+pub mod Telling

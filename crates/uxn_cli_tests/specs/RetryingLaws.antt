@@ -1,5 +1,5 @@
 -- Laws of calls that are handed on to a tree or a sink, once or twice.
-use Rattle.std.specs.Prelude.{◌≡◌, ℕ, Bool, true, false, List, refl}
+use Rattle.std.specs.Prelude.{◌≡◌, ℕ, Bool, true, false, List, Option, refl}
 use Rattle.std.proofs.Common.{arith, sym, ◌∙◌}
 use Rattle.std.proofs.lemmas.Bool.{false≢true}
 use Rattle.uxn_io_traits.specs.Faults.{FaultTally, Counted}
@@ -36,8 +36,8 @@ looked_once failed before now p = record {
   left = p.left;
 }
 
-pub refused_once : (how : Bool) (before now : TreeState) → Refused how (retried_tree before) (retried_tree now)
-refused_once how before now = λ is. absurd (false≢true is)
+pub refused_once : (file : Option (List ℕ)) (before now : TreeState) → Refused file (retried_tree before) (retried_tree now)
+refused_once file before now = λ is. absurd (false≢true is)
 
 -- a call that looked at a tree, tried again once it had failed
 pub looked_again : (failed : Bool) (a b c : TreeState) → TreeLooked true a b → TreeLooked failed b c

@@ -16,4 +16,8 @@ mod retry_tests;
 #[cfg(test)]
 mod retrying;
 #[cfg(test)]
+mod telling;
+#[cfg(test)]
+mod telling_tests;
+#[cfg(test)]
 mod turn_tests;

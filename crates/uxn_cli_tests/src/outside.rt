@@ -7,7 +7,7 @@ ghost use Rattle.uxn_io_traits.specs.Children.{IsEntry};
 
 use std::alloc::Global;
 use std::cell::Cell;
-use uxn_io::{Entry, Failed, Kind, MemTree, NamesStop, Path, Sink, Tree};
+use uxn_io::{Entry, Failed, Kind, MemTree, NamesStop, Path, RefusedFiles, Sink, Tree};
 
 /// How the calls are answered.
 #[derive(Clone, Copy)]
@@ -299,8 +299,8 @@ pub struct Files<'a> {
     held: Held<'a>,
     /// How many of its calls have failed.
     pub faults: u64,
-    /// How many files it refused to create.
-    pub refusals: u64,
+    /// The files that it refused to create.
+    pub refused: RefusedFiles,
 }
 
 impl<'a> Files<'a> {
@@ -316,7 +316,7 @@ impl<'a> Files<'a> {
         Files {
             held,
             faults: 0,
-            refusals: 0,
+            refused: RefusedFiles::new(),
         }
     }
 
@@ -335,7 +335,7 @@ impl<'a> Files<'a> {
     #[tactic(auto, using(uxn_io_traits::specs::UnknownLaws::nothing_counted, uxn_io_traits::specs::UnknownLaws::fault_counted))]
     fn counted<T>(&mut self, done: Result<T, Failed>) -> Result<T, Failed>
         ensures counted { Counted (exactly self.old.faults) (exactly self.new.faults) (is_err result) }
-        ensures refusals { self.new.refusals ≡ self.old.refusals }
+        ensures refused { self.new.refused ≡ self.old.refused }
         ensures value { IfOk result (λ value. done ≡ Ok value) }
     {
         match done {
@@ -351,7 +351,7 @@ impl<'a> Files<'a> {
 impl Tree for Files<'_> {
     ghost use Rattle.uxn_io_traits.specs.Unknown.{unknown_tree};
 
-    ghost state = { λ files. unknown_tree files.faults files.refusals };
+    ghost state = { λ files. unknown_tree files.faults files.refused };
 
     #[tactic(auto, using(uxn_io_traits::specs::UnknownLaws::looked))]
     fn kind(&mut self, path: &Path) -> Result<Kind, Failed> {
@@ -370,7 +370,7 @@ impl Tree for Files<'_> {
         let made = self.held.create(path);
         let made = self.counted(made)?;
         if !made {
-            self.refusals = self.refusals.saturating_add(1);
+            self.refused.add(path);
         }
         Ok(made)
     }

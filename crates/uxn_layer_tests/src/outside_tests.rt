@@ -372,10 +372,10 @@ fn whole_files_are_read_up_to_the_limit(rt: HostRuntime) -> Result<(), Fail> {
 struct Endless;
 
 impl Tree for Endless {
-    ghost use Rattle.std.specs.Prelude.{true, None};
-    ghost use Rattle.uxn_io_traits.specs.Room.{no_promise};
+    ghost use Rattle.std.specs.Prelude.{None};
+    ghost use Rattle.uxn_io_traits.specs.Unknown.{unknown_tree};
 
-    ghost state = { λ _. record { contents = None; tally = record { faults = 0; exact = true }; refusals = 0; guaranteed = no_promise } };
+    ghost state = { λ _. unknown_tree 0 (record { count = 0; last = None }) };
 
     fn kind(&mut self, _path: &Path) -> Result<Kind, Failed> {
         Ok(Kind::File(1))
