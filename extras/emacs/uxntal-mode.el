@@ -6,7 +6,7 @@
 ;;; Commentary:
 
 ;; (add-to-list 'load-path "..") (require 'uxntal-mode)
-;; Colours, indentation as `uxn-fmt' has it, and `M-x compile', which assembles the source by `uxn-check'; `next-error'
+;; Colours, indentation as `uxn-fmt' has it, and `M-x compile', which checks the source by `uxn-check'; `next-error'
 ;; goes to the faulty word, also in an included file.  With Eglot, `M-x eglot' starts the language server `uxn-lsp'.
 ;; These programs and `uxn' have to be in PATH.
 

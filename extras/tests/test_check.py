@@ -24,12 +24,17 @@ class Check(ToolTest):
         self.assertEqual(self.check("../a folder/a b.tal"), "../a folder/a b.tal:1:7: UnknownName: ok\n")
         self.folder = top
 
-    def test_a_right_source_leaves_its_rom(self) -> None:
-        self.write("b.tal", "#18")
-        self.assertEqual(self.check("b.tal", 0), "")
-        self.assertEqual(self.read("b.rom"), b"\x80\x18")
-        self.assertEqual(self.call("uxn-check", "b.tal", "--out", "c.rom").returncode, 0)
-        self.assertEqual(self.read("c.rom"), b"\x80\x18")
+    def test_it_leaves_a_rom_where_one_is_asked_for(self) -> None:
+        self.write("b/b.tal", "#18 ~lib/c.tal")
+        self.write("b/lib/c.tal", "DEI")
+        before = os.listdir(self.path("b"))
+        os.chmod(self.path("b"), 0o555)
+        self.addCleanup(os.chmod, self.path("b"), 0o755)
+        self.assertEqual(self.check("b/b.tal", 0), "")
+        self.assertEqual(os.listdir(self.path("b")), before)
+        os.chmod(self.path("b"), 0o755)
+        self.assertEqual(self.call("uxn-check", "b/b.tal", "--out", "c.rom").returncode, 0)
+        self.assertEqual(self.read("b/c.rom"), b"\x80\x18\x16")
 
     def test_included_files(self) -> None:
         self.write("a folder/a.tal", "BRK\n~lib/c.tal")

@@ -4,6 +4,7 @@ import re
 import shutil
 import signal
 import struct
+import time
 
 from support import EXAMPLES, ToolTest
 from terminal import Terminal
@@ -213,6 +214,17 @@ class Commands(Debug):
         self.assertNotEqual(shown[5], shown[6])
         self.assertEqual(shown[8], "WST 2: 01 40\nRST 0:\n")
 
+    def test_print_of_the_last_label(self) -> None:
+        """It ends with the ROM, and is no longer than a row."""
+        self.write("a.tal", "|f0 @shown |0100 @main BRK @first 0102 @last 0304 05")
+        words = ["uxn-debug", "a.tal"]
+        shown = self.answers("print first", "print last", words=words)
+        self.assertEqual(shown, ["0101 01 02  = 258\n", "0103 03 04 05\n"])
+        self.write("a.tal", f"@main BRK @last {'41' * 2} {'42' * 2} {'43 ' * 20}")
+        self.assertTrue(self.answers("print last", words=words)[0].startswith(f"0101 41 41 42 42{' 43' * 12}  '"))
+        self.write("a.tal", "|0100 BRK |f0 @shown $1")
+        self.assertEqual(self.answers("print shown", words=words)[0].splitlines()[0], f"00f0{' 00' * 16}")
+
     def test_watch_finds_the_last_store(self) -> None:
         self.write("a.tal", "#01 ;x STA\n#02 ;x STA\n#0000 @loop INC2 DUP2 #3000 NEQ2 ?loop\nBRK @x 00")
         shown = self.answers(
@@ -222,6 +234,31 @@ class Commands(Debug):
         self.assertIn("was 01, became 02 by\nmoment 5:", shown[3])
         self.assertIn("a.tal:2: #02 ;x STA", shown[3])
         self.assertIn("nothing changed", shown[5])
+
+    def test_watch_says_that_a_port_is_none_of_memory(self) -> None:
+        self.write("a.tal", "|28 @Screen/x $2 |f0 @shown $1 |0100 #0007 .Screen/x DEO2 #01 #29 STZ #02 .shown DEO BRK")
+        shown = self.answers(
+            "run", "watch Screen/x", "print Screen/x", "watch 0028 2", "watch shown", words=["uxn-debug", "a.tal"]
+        )
+        self.assertEqual(
+            shown[1], "Screen/x is a port, and only memory is watched: `print Screen/x` in uxn-debug shows the port\n"
+        )
+        self.assertIn("port 28 00 07", shown[2])
+        self.assertIn("0028 was 00 00, became 00 01 by\nmoment 5:", shown[3])
+        self.assertEqual(
+            shown[4], "nothing changed 00f0 before this moment (in memory; `ports` in uxn-debug shows the ports)\n"
+        )
+
+    def test_watch_where_instructions_are_stored(self) -> None:
+        """A store by an instruction that the program itself put there; and one by a file device."""
+        loop = "#0000 @loop INC2 DUP2 #3000 NEQ2 ?loop BRK"
+        self.write("a.tal", f"#01 ;x STA #15 ;patch STA #09 ;x @patch POP2 {loop} @x 00")
+        shown = self.answers("goto 60000", "watch x", words=["uxn-debug", "a.tal"])
+        self.assertIn("was 01, became 09 by\nmoment 8: 0111 STA  patch+0000", shown[1])
+        self.write("r/f", "z")
+        self.write("b.tal", f';name #a8 DEO2 #0001 #aa DEO2 ;x #ac DEO2 {loop} @name "f 00 @x 00')
+        shown = self.answers("goto 60000", "watch x", words=["uxn-debug", "b.tal", "--root", "r"])
+        self.assertRegex(shown[1], r"was 00, became 7a by\nmoment 8: [0-9a-f]{4} DEO2\n")
 
     def test_a_file_and_a_line_as_a_place(self) -> None:
         shown = self.answers(
@@ -464,6 +501,7 @@ class Programs(Debug):
         terminal = self.at_terminal(["uxn-debug", self.example("mistake.tal")])
         terminal.read()
         self.assertEqual(len(os.listdir(self.path("tmp"))), 1)
+        terminal.wait_until_idle()
         terminal.process.send_signal(signal.SIGTERM)
         self.assertEqual(terminal.end(), 143)
         self.assertEqual(os.listdir(self.path("tmp")), [])
@@ -503,44 +541,95 @@ class Programs(Debug):
         self.assertEqual([text.split(":")[0] for text in shown[8:11]], ["moment 26892", "moment 53780", "moment 26892"])
         self.assertIn("the run ends after 10755204 instructions", shown[11])
 
-    def test_no_command_takes_more_than_two_runs(self) -> None:
-        """Four million instructions, back and forth: a run of them takes some 0.6 s, two run side by side, and what
-        lies near is known without one."""
+    def counted(self) -> None:
+        """Makes `uxn` one that notes how many instructions each call of `uxn debug` runs."""
+        self.write(
+            "counted",
+            "#!/bin/sh\n"
+            f'[ "$1" = debug ] || exec "{self.program}" "$@"\n'
+            f'"{self.program}" "$@" --report=.uxn-tool-count; status=$?\n'
+            f"""sed -n 's/^instructions //p' .uxn-tool-count >>"{self.path('counts')}"\n"""
+            "exit $status\n",
+        )
+        os.chmod(self.path("counted"), 0o755)
+        self.write("counts", "")
+        self.environment["UXN"] = self.path("counted")
+
+    def new_counts(self, before: int) -> list[int]:
+        return [int(line) for line in self.read("counts").split()[before:]]
+
+    def test_what_commands_run(self) -> None:
+        """Four million instructions, back and forth: at most one run that goes to where the answer is, and what lies
+        near is known without one. Each answer comes in a few times the time of one such run."""
         self.write(
             "a.tal", "@main &loop count ;y LDA2 INC2 ;y STA2 !&loop\n@count ;x LDA2 INC2 ;x STA2 JMP2r\n@x 0000 @y 0000"
         )
-        self.write("counted", f'#!/bin/sh\necho run >>"{self.path("runs")}"\nexec "{self.program}" "$@"\n')
-        os.chmod(self.path("counted"), 0o755)
-        self.environment["UXN"] = self.path("counted")
+        self.write("c", "step 4000000\n")
+        begin = time.monotonic()
+        self.succeed("uxn", "debug", "a.tal", "--commands", "c", "--log", "l")
+        one_run = time.monotonic() - begin
+        self.counted()
         terminal = self.at_terminal(["uxn-debug", "a.tal"])
         terminal.read()
-        wanted = {
-            "goto 3999900": 1,
+        self.assertLess(sum(self.new_counts(0)), 300_000)
+        whole = 4_000_000
+        for line, most in {
+            "goto 3999900": whole,
             "break count": 0,
-            "run": 1,
-            "r": 1,
+            "run": 0,
+            "r": 0,
             "rr": 0,
             "step 20": 0,
             "back 30": 0,
-            "goto 2999900": 1,
-            "next": 1,
-            "reverse-run": 2,
-            "back": 1,
-            "finish": 2,
-            "mem x": 1,
-            "print y": 0,
             "ports": 0,
-            "watch y 2": 1,
-            "goto 5": 1,
-            "goto 2000000": 1,
+            "goto 2999900": 3_500_000,
+            "mem x": 0,
+            "print y": 0,
+            "next": 0,
+            "reverse-run": 0,
+            "back": 0,
+            "finish": 0,
+            "calls": 0,
+            "watch y 2": 3_500_000,
+            "goto 5": 300_000,
+            "goto 2000000": 2_400_000,
             "where": 0,
             "list": 0,
-        }
-        for line, most in wanted.items():
-            before = len(self.read("runs"))
+            "delete count": 0,
+            "break 0000": 0,
+            "run ": whole,
+            "goto 1": 0,
+        }.items():
+            before = len(self.read("counts").split())
+            begin = time.monotonic()
             self.assertIn("\n", terminal.ask(line))
-            self.assertLessEqual((len(self.read("runs")) - before) // 4, most, line)
+            seconds = time.monotonic() - begin
+            counts = self.new_counts(before)
+            self.assertLessEqual((len(counts) > 1, sum(counts)), (False, most), line)
+            self.assertLess(seconds, 4 * one_run + 2, line)
         self.assertEqual(terminal.quit(), 0)
+
+    def test_a_long_vector_behind_others(self) -> None:
+        """A vector of millions of instructions is followed up to the moment, unless one before it is as long."""
+        self.write(
+            "a.tal",
+            "|80 @Controller &vector $2 |0100 ;on-key .Controller/vector DEO2 BRK\n"
+            "@on-key ;n LDA2 INC2 ;n STA2 [ LIT2 &most 0100 ] #0000 &loop INC2 EQU2k #00 EQU ?&loop POP2 POP2\n"
+            "#ffff ,&most STR2 BRK @n 0000",
+        )
+        for script, wanted in (("key 41\nkey 42\nkey 43\n", (2000, 30_000, 350_000)), ("key 41\n" * 4, (800_000,))):
+            self.write("s", script)
+            for at in wanted:
+                self.write("c", f"step {at}\nmem @n 2\nstacks\n")
+                self.succeed("uxn", "debug", "a.tal", "--script", "s", "--commands", "c", "--log", f"l{at}")
+            shown = self.answers(
+                *[line for at in wanted for line in (f"goto {at}", "mem n 2")],
+                words=["uxn-debug", "a.tal", "--script", "s"],
+            )
+            for at, place, memory in zip(wanted, shown[::2], shown[1::2]):
+                log = self.read(f"l{at}").decode().splitlines()
+                self.assertTrue(place.startswith(f"moment {at}: {log[0].split()[1]} {log[0].split()[3]}"), (place, log))
+                self.assertTrue(memory.startswith(log[1]), (memory, log))
 
     def test_wrong_calls(self) -> None:
         for words in ([], ["a.tal", "b.tal"], ["a.tal", "--nothing"], ["a.tal", "--script"]):

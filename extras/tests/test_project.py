@@ -106,11 +106,12 @@ class Project(ToolTest):
         self.assertIn("no tests", self.make("test", status=2))
 
     def test_the_commands_of_the_ci_job(self) -> None:
-        """The job's own lines are run, with the folder that they need; GitHub itself is not there."""
+        """The job's own lines are run, over a project that holds the program and a copy of the tools; GitHub itself is
+        not there."""
         self.use("hello", "out")
         os.makedirs(self.path("tools"))
-        os.symlink(self.program, self.path("tools/uxn"))
-        os.symlink(EXTRAS, self.path("tools/extras"))
+        shutil.copy(self.program, self.path("tools/uxn"))
+        shutil.copytree(EXTRAS, self.path("tools/extras"))
         with open(self.path(".github/workflows/test.yml"), encoding="utf-8") as file:
             steps = re.findall(r"(?m)^      - run: (.*)$", file.read())
         self.assertEqual([step.split()[0] for step in steps], ["printf", "uxn-test", "printf", "uxn-cover"])

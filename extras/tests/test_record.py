@@ -107,6 +107,27 @@ class FromAPipe(ToolTest):
         )
         self.assertEqual(self.read("tests/a.script"), b'script 2\ninput "one 0a\ninput "two 0a\nend\n')
 
+    def test_a_line_that_cannot_be_done(self) -> None:
+        """Then nothing is written, so that the session can be mended and run again."""
+        self.write("game.tal", ECHO)
+        for line, said in (
+            (":nonsense", "[there is no command :nonsense; :help shows them]"),
+            (":expect f0 77", "[port f0 holds 00: the expect is taken back]"),
+        ):
+            shown = self.refuse_lines(1, f"x\n{line}\n:done\n", "game.tal", "--to", "tests/a")
+            last = "uxn-record: nothing is written: lines that could not be done: 1"
+            self.assertEqual(shown.splitlines(), [said, last])
+            self.assertFalse(os.path.exists(self.path("tests")))
+        self.refuse_lines(1, ":nonsense\n:quit\n", "game.tal", "--to", "tests/a")
+        self.record("x\n:help\n:done\n", "game.tal", "--to", "tests/a")
+
+    def test_an_empty_root(self) -> None:
+        self.write("game.tal", ECHO)
+        os.mkdir(self.path("files"))
+        done = self.call("uxn-record", "game.tal", "--to", "tests/a", "--root", "files", stdin=b"x\n")
+        said = b"[tests/a.root is empty, and git leaves out empty folders: put a file in it]\n"
+        self.assertEqual((done.returncode, done.stderr), (0, said))
+
     def test_arguments_root_and_clock(self) -> None:
         shutil.copy(os.path.join(EXAMPLES, "notes.tal"), self.path("notes.tal"))
         shutil.copytree(os.path.join(EXAMPLES, "notes.root"), self.path("files"))

@@ -57,8 +57,15 @@ class SandboxTest(ToolTest):
         self.write("secret", "secret")
         self.write("root/own", "own")
 
+    def words(self, *words: str) -> list[str]:
+        """A call in bubblewrap if that works here, or else without it and without the line that says so."""
+        return ["uxn-sandbox", "--isolation", "need" if sandboxing() else "none", *words]
+
     def sandbox(self, *words: str) -> subprocess.CompletedProcess[bytes]:
-        return self.call("uxn-sandbox", "--isolation", "need" if sandboxing() else "none", *words)
+        return self.call(*self.words(*words))
+
+    def refuse_in_sandbox(self, status: int, *words: str) -> str:
+        return self.refuse(status, *self.words(*words))
 
     def read_by_program(self, name: str) -> bytes:
         """What a program beneath the root `root` reads of a file."""
@@ -135,23 +142,23 @@ class WaysOut(SandboxTest):
         self.write("loop.tal", "|0100 ;loop #20 DEO2 @loop !loop")
         self.write("script", "frame 1000000\n")
         begun = time.monotonic()
-        line = self.refuse(
-            202, "uxn-sandbox", "--seconds", "1", "play", "loop.tal", "--script", "script", "--budget", "4294967295"
+        line = self.refuse_in_sandbox(
+            202, "--seconds", "1", "play", "loop.tal", "--script", "script", "--budget", "4294967295"
         )
         self.assertIn("after 1 seconds of processor time", line)
         self.assertLess(time.monotonic() - begun, 30)
 
     def test_09_a_file_grows(self) -> None:
         self.write("writer.tal", WRITER)
-        line = self.refuse(202, "uxn-sandbox", "--size", "2", "play", "writer.tal", "--root", "root")
+        line = self.refuse_in_sandbox(202, "--size", "2", "play", "writer.tal", "--root", "root")
         self.assertIn("root/big: it has reached 2097152 bytes", line)
         self.assertEqual(os.path.getsize(self.path("root/big")), 2 << 20)
         self.write("noise.tal", "|0100 BRK")
         self.write("script", "frame 5000\n")
         self.assertIn(
             "w: it has reached",
-            self.refuse(
-                202, "uxn-sandbox", "--size", "1", "play", "noise.tal", "--samples", "w", "--script", "script"
+            self.refuse_in_sandbox(
+                202, "--size", "1", "play", "noise.tal", "--samples", "w", "--script", "script"
             ),
         )
 
@@ -163,7 +170,7 @@ class WaysOut(SandboxTest):
         os.mkdir(self.path("root"))
         self.assertIn(
             "26 files and folders, more than 20",
-            self.refuse(202, "uxn-sandbox", "--files", "20", "play", "many.tal", "--root", "root"),
+            self.refuse_in_sandbox(202, "--files", "20", "play", "many.tal", "--root", "root"),
         )
         self.assert_refused("more than 20", "--files", "20", "play", "many.tal", "--root", "root")
 
@@ -178,9 +185,9 @@ class WaysOut(SandboxTest):
     def test_12_a_source_that_includes_without_end(self) -> None:
         self.write("a.tal", "~a.tal ~b.tal " * 200)
         self.write("b.tal", "~a.tal")
-        self.assertIn("IncludeDeep", self.refuse(131, "uxn-sandbox", "play", "a.tal"))
+        self.assertIn("IncludeDeep", self.refuse_in_sandbox(131, "play", "a.tal"))
         self.write("c.tal", "\n".join(f"~lib/{number}.tal" for number in range(200_000)))
-        self.assertIn("IncludeMissing: ~lib/0.tal", self.refuse(131, "uxn-sandbox", "play", "c.tal"))
+        self.assertIn("IncludeMissing: ~lib/0.tal", self.refuse_in_sandbox(131, "play", "c.tal"))
 
 
 @IN_BUBBLEWRAP

@@ -379,6 +379,72 @@ class Showing(Suite):
         self.assertIn("after: notes.txt: it differs", self.run_tests(status=1))
 
 
+class Warnings(Suite):
+    """What is said beside the outcome, which stays the same."""
+
+    def said(self, *words: str) -> list[str]:
+        done = self.call("uxn-test", *words)
+        self.assertEqual(done.returncode, 0, done.stdout.decode() + done.stderr.decode())
+        return done.stderr.decode().splitlines()
+
+    def test_misspelt_files(self) -> None:
+        files(self, nop_script='input "a\n', nop_out="a", nop_oot="b", nop_expected="c", other_oot="no test's")
+        self.write("tests/nop.aftr/x", "")
+        self.write("tests/nop.more/win.script", 'input "a\n')
+        self.write("tests/nop.more/win.out", "a")
+        self.write("tests/two/script", 'input "a\n')
+        self.write("tests/two/out", "a")
+        self.write("tests/two/rot/x", "")
+        self.write("tests/two/notes", "")
+        wanted = [
+            "uxn-test: tests/nop.aftr: no test reads it: is it .after?",
+            "uxn-test: tests/nop.expected: no test reads it",
+            "uxn-test: tests/nop.oot: no test reads it: is it .out?",
+            "uxn-test: tests/two/rot: no test reads it: is it root?",
+        ]
+        self.assertEqual(self.said(), wanted)
+        self.assertEqual(self.said("--list"), [])
+        self.assertEqual(self.said("--update"), wanted)
+
+    def test_files_of_other_uses(self) -> None:
+        """Programs, pictures, notes, backups, and what the configuration names."""
+        files(self, nop_script="end\n", nop_out="", nop_tal="BRK", nop_png="", nop_md="", **{"nop_out~": ""})
+        self.write("tests/nop.files/x", "")
+        self.write("uxn-test.toml", 'program = "tests/*.tal"\n[test."tests/nop"]\nroot = "tests/nop.files"\n')
+        self.assertEqual(self.said(), [])
+
+    def test_pictures_that_are_not_compared(self) -> None:
+        self.write("game.tal", SHOT)
+        files(self, win_script="shot\n", win_out="", other_script="# shot\n", other_out="")
+        for _ in range(2):
+            self.assertEqual(self.said(), ["uxn-test: tests/win: pictures are not compared: --update records them"])
+        self.assertEqual(self.said("--update"), [])
+        self.assertEqual(self.said(), [])
+
+    def test_folders_that_git_leaves_out(self) -> None:
+        files(self, win_script='input "a\n', both_script='input "a\n', full_script='input "a\n')
+        os.makedirs(self.path("tests/win.root/saves"))
+        os.makedirs(self.path("tests/both.root"))
+        self.write("tests/full.root/saves/x", "")
+        end = "is empty, and git leaves out empty folders: put a file in it"
+        wanted = [f"uxn-test: tests/both.root {end}", f"uxn-test: tests/win.root/saves {end}"]
+        self.assertEqual(self.said("--update"), wanted)
+        self.assertEqual(self.said(), [])
+
+    def test_an_empty_root_that_is_written(self) -> None:
+        """Without the folder the root begins empty too, since files are wanted after the run."""
+        self.write("game.tal", ';name #a8 DEO2 #0002 #aa DEO2 ;name #ae DEO2 BRK @name "new 00')
+        files(self, win_script="end\n")
+        os.mkdir(self.path("tests/win.root"))
+        said = self.run_tests("--update")
+        self.assertIn("    after: new: 2 bytes, new\n", said)
+        self.assertNotIn("is empty", said)
+        os.rmdir(self.path("tests/win.root"))
+        self.run_tests()
+        self.write("game.tal", "BRK")
+        self.assertIn("    after: new: nothing any more\n", self.run_tests("--update"))
+
+
 class Recording(Suite):
     def test_it_is_shown_and_then_passes(self) -> None:
         files(self, win_script='input "hi 0a\n')
@@ -457,6 +523,7 @@ class Keeping(Suite):
 
     def test_nothing_is_run_again(self) -> None:
         self.assertIn("(2 unchanged, not run again)", self.run_tests())
+        self.assertIn("passed tests/win (unchanged)\n", self.run_tests("-v"))
         self.assertNotIn("unchanged", self.run_tests("--fresh"))
 
     def test_each_file_counts(self) -> None:

@@ -130,6 +130,16 @@ class Watch(ToolTest):
         labels = [line.split()[3].partition("+")[0] for line in found]
         self.assertEqual(labels[:3], ["do-line/in", "do-line/out", "append"])
 
+    def test_ports(self) -> None:
+        """A port is no memory: its label is refused, and the memory at its address is followed by the number."""
+        name = self.write(
+            "a.tal", "|28 @Screen/x $2 |f0 @shown $1 |0100 #0007 .Screen/x DEO2 #01 #29 STZ #02 .shown DEO BRK"
+        )
+        for where in ("Screen/x", "@Screen/x", "Screen/x+0001"):
+            self.assertIn("Screen/x is a port", self.refuse(1, "uxn-watch", name, where).replace("+0001", ""))
+        self.assertEqual(len(self.changes(name, "0028", "2")), 1)
+        self.assertIn("(in memory; `ports` in uxn-debug shows the ports)", self.refuse(1, "uxn-watch", name, "shown"))
+
     def test_nothing_changed_and_wrong_calls(self) -> None:
         name = self.write("a.tal", "#00 ;x STA BRK @x 00")
         self.assertEqual(self.refuse(1, "uxn-watch", name, "x"), "uxn-watch: nothing changed 0107 in 4 instructions")

@@ -12,8 +12,10 @@ from uxntools.target import Workspace
 # The ports that hold the pointers of the stacks.
 WORKING_POINTER, RETURN_POINTER = 0x04, 0x05
 
-# What shows a state. The first line of the ports has both pointers.
-LOOK = ("where", "stacks", "ports")
+# What shows a state: the place, as `step` and `run` show it too, and the rest. The first line of the ports has both
+# pointers.
+REST_OF_LOOK = ("stacks", "ports")
+LOOK = ("where", *REST_OF_LOOK)
 LINES_OF_LOOK = sum(map(log.lines_shown, LOOK))
 MOST_STEP = 4294967295
 
@@ -83,27 +85,22 @@ def last(workspace: Workspace, commands: Sequence[str], count: int = 1) -> list[
     return found[::-1]
 
 
-def look(workspace: Workspace, commands: Sequence[str]) -> State:
-    """The state that commands lead to."""
-    return state([line for lines in last(workspace, [*commands, *LOOK], len(LOOK)) for line in lines])
-
-
 def trace(workspace: Workspace, first: int, count: int) -> Iterator[State]:
     """The states from a moment on, so many, or up to the end, which is the last then."""
-    chunk = MOST_COMMANDS // (len(LOOK) + 1) - 2
+    chunk = MOST_COMMANDS // len(LOOK) - 2
     while count > 0:
         size = min(count, chunk)
         commands = [*to(first), *LOOK]
         for _ in range(size - 1):
-            commands += ["step 1", *LOOK]
+            commands += ["step 1", *REST_OF_LOOK]
         lines = workspace.debug(commands)
-        at = len(lines) - size * LINES_OF_LOOK - (size - 1)
+        at = len(lines) - size * LINES_OF_LOOK
         for _ in range(size):
             found = state(lines[at : at + 4])
             yield found
             if found.is_end:
                 return
-            at += LINES_OF_LOOK + 1
+            at += LINES_OF_LOOK
         first, count = first + size, count - size
 
 
@@ -115,16 +112,3 @@ def next_at(workspace: Workspace, address: int, first: int = 0) -> tuple[int, bo
         return place.count, True
     later = log.place(there[0])
     return (later.count, True) if later else (log.end(there[0]) or 0, False)
-
-
-def hits(workspace: Workspace, addresses: Sequence[int], first: int, most: int) -> tuple[list[log.Place], bool]:
-    """The moments at any of these addresses behind the first, as many as requested, and whether these are all
-    up to the end."""
-    lines = workspace.debug([*to(first), *breaks(addresses), *["run"] * most])
-    found: list[log.Place] = []
-    for line in lines[len(lines) - most :]:
-        place = log.place(line)
-        if place is None:
-            return found, True
-        found.append(place)
-    return found, False

@@ -11,6 +11,10 @@ from uxntools.target import Program
 DISTANCE = re.compile(r"(?P<label>.+)\+(?P<distance>[0-9a-f]{1,4})")
 LINE = re.compile(r"(?P<path>.*):(?P<line>[0-9]{1,9})")
 ADDRESS = re.compile(r"[0-9a-f]{4}")
+# The names that the devices have in most sources; their labels are ports.
+DEVICE = re.compile(r"(System|Console|Screen|Audio\d*|Controller|Mouse|File\d*|DateTime)[/+]")
+# How many addresses are ports too.
+PORTS = 0x100
 
 
 def address_of(program: Program, text: str, path: str = "") -> int:
@@ -52,6 +56,23 @@ def of_address(program: Program, address: int) -> str:
     """The nearest label at or below an address, with the distance, as the debugger's log has it."""
     near = program.labels.nearest(address)
     return f"{log.readable(near[0])}+{near[1]:04x}" if near else ""
+
+
+def is_port(program: Program, address: int) -> bool:
+    """Whether the nearest label of an address is that of a device."""
+    return address < PORTS and DEVICE.match(of_address(program, address)) is not None
+
+
+def refuse_port(text: str, address: int) -> None:
+    """Refuses the label of a device where the stores to a byte of memory are looked for."""
+    name = text.removeprefix("@")
+    if address < PORTS and DEVICE.match(f"{name}+"):
+        raise Failure(f"{name} is a port, and only memory is watched: `print {name}` in uxn-debug shows the port")
+
+
+def note_of_ports(address: int) -> str:
+    """What is said beside an address that is a port too, where nothing was found in memory."""
+    return " (in memory; `ports` in uxn-debug shows the ports)" if address < PORTS else ""
 
 
 def line_of(program: Program, address: int | None) -> tuple[str, int] | None:

@@ -163,13 +163,15 @@ Say = Callable[[str], None]
 
 @dataclass
 class Session:
-    """A session over a recorder: each line that is typed, what it shows, and whether the session goes on."""
+    """A session over a recorder: each line that is typed, what it shows, whether the session goes on, and how many
+    lines could not be done."""
 
     recorder: Recorder
     show: Callable[[bytes, bytes], None]
     say: Say
     png: str
     is_written: bool = True
+    wrong: int = 0
 
     def start(self) -> bool:
         self._add([])
@@ -183,6 +185,7 @@ class Session:
             text = os.fsencode(line[1:] if line.startswith("::") else line)
             self._add(input_group(text + b"\n"))
         except Wrong as wrong:
+            self.wrong += 1
             self.say(str(wrong))
         return self._goes_on()
 
@@ -222,8 +225,10 @@ class Session:
         elif name in ("done", "quit"):
             self.is_written = name == "done"
             return False
+        elif name == "help":
+            self.say(HELP)
         else:
-            self.say(HELP if name == "help" else f"there is no command :{name}; :help shows them")
+            raise Wrong(f"there is no command :{name}; :help shows them")
         return self._goes_on()
 
     def _expect(self, words: list[str]) -> None:

@@ -96,11 +96,12 @@ def is_plain(path: str) -> bool:
 
 class Workspace:
     """Copies of all that a run reads. Each call of `uxn` has a folder of its own, with the files under their own
-    names. Where `shortened` is set, it takes the place of the run's script."""
+    names. Where they are set, `shortened` takes the place of the run's script, and `cut` that of its budget."""
 
     def __init__(self, target: Target) -> None:
         self.target = target
         self.shortened: bytes | None = None
+        self.cut: int | None = None
         self._scratch = tempfile.TemporaryDirectory(prefix="uxn-tool-")
         self._files = os.path.join(self._scratch.name, "files")
         os.mkdir(self._files)
@@ -159,23 +160,19 @@ class Workspace:
         elif os.path.exists(copies):
             shutil.copyfile(copies, folder)
 
-    def debug(self, commands: Sequence[str], script: bytes | None = None) -> list[str]:
-        """The lines of the log of these commands (latin-1), over the run's script or the one that is given."""
-        done, log = self.try_debug(commands, script)
-        program.accepted(done)
-        return log
-
-    def try_debug(self, commands: Sequence[str], script: bytes | None = None) -> tuple[Done, list[str]]:
-        """The same of a call that may be refused or end early."""
-        target = self.target
-        script = self.shortened if script is None else script
-        words = ["debug", target.source, f"--commands={OWN}commands", f"--log={OWN}log", *self._options(script)]
+    def debug(self, commands: Sequence[str], run: tuple[bytes | None, int | None] | None = None) -> list[str]:
+        """The lines of the log of these commands (latin-1), over the present run, or over one with another script and
+        another budget."""
+        target, (script, budget) = self.target, run or (self.shortened, self.cut)
+        options = self._options(script, budget)
+        words = ["debug", target.source, f"--commands={OWN}commands", f"--log={OWN}log", *options]
         words += [f"--symbols={target.symbols}"] if target.symbols is not None else []
         files = {"commands": "\n".join([*commands, ""]).encode("latin-1")} | (
             {} if script is None else {"script": script}
         )
         done, outputs = self.call(words, files, ["log"])
-        return done, outputs["log"].decode("latin-1").split("\n")[:-1]
+        program.accepted(done)
+        return outputs["log"].decode("latin-1").split("\n")[:-1]
 
     def play(self, script: bytes, *outputs: str, budget: int | None = None) -> dict[str, bytes]:
         """The outputs (`frames`, `report`, ..) of a run over the given script, and with another budget where one is
@@ -186,9 +183,7 @@ class Workspace:
 
     def try_play(self, script: bytes, *outputs: str, budget: int | None = None) -> tuple[Done, dict[str, bytes]]:
         """The same of a call that may be refused or end early."""
-        options = self._options(script)
-        if budget is not None:
-            options = [word for word in options if not word.startswith("--budget=")] + [f"--budget={budget}"]
+        options = self._options(script, budget)
         words = ["play", self.target.source, *options, *(f"--{name}={OWN}{name}" for name in outputs)]
         return self.call(words, {"script": script}, outputs)
 
@@ -197,11 +192,12 @@ class Workspace:
         path = self.target.script
         return b"" if path is None or not is_plain(path) else _data(self.path(path))
 
-    def _options(self, script: bytes | None) -> list[str]:
-        options = self.target.options()
-        if script is None:
-            return options
-        return [word for word in options if not word.startswith("--script=")] + [f"--script={OWN}script"]
+    def _options(self, script: bytes | None, budget: int | None = None) -> list[str]:
+        """The options of the run, with a script and a budget in the place of its own."""
+        own = {} if script is None else {"--script=": f"{OWN}script"}
+        own |= {} if budget is None else {"--budget=": str(budget)}
+        kept = [word for word in self.target.options() if not word.startswith(tuple(own))]
+        return kept + [name + value for name, value in own.items()]
 
     def call(
         self, words: Sequence[str], files: Mapping[str, bytes], outputs: Sequence[str]

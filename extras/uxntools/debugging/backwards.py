@@ -1,68 +1,47 @@
-"""Looking back from a moment: the last moment at a break, and the last store. The run is followed from some moments
-before, and from its start, at the same time; most of what is looked for is found in that one go."""
+"""The last store before a moment that changed some bytes.
+
+The last moments are looked at one by one. Before these the run is followed in parts, the last ones first: a part
+stops before each instruction that may store, by the program as it was loaded, where the stacks say what is stored.
+What else may store in a part stands at an address that held such an instruction at its start, or that was stored to
+since: that the run comes to none of these is asked at the end."""
 
 from __future__ import annotations
 
-from collections.abc import Sequence
+import os
+import re
+from bisect import bisect_left
+from collections.abc import Iterator, Sequence
 from concurrent.futures import ThreadPoolExecutor
+from dataclasses import dataclass, field
+from threading import Lock
 
 from uxntools import log, moments
+from uxntools.horizon import Horizon
 from uxntools.log import MOST_COMMANDS
 from uxntools.moments import LINES_OF_LOOK, LOOK, State
-from uxntools.stores import Change, Watched
+from uxntools.stores import Change, Stop, Watched, can_store
 from uxntools.target import Workspace
 
-# The address of the first instruction.
-START = 0x0100
-# How many moments before the present one are looked at with all that is shown of a state, and how many stops from the
-# start of the run.
-LATE, EARLY = 4000, 2000
-# How many moments before the present one are followed one by one, to find the last store.
-NEAR = 20000
+# How many moments before the present one are followed one by one, and how many of these with all that is shown of a
+# state.
+NEAR, LATE = 20000, 4000
+# How long the first part is, how many parts are followed side by side, how much of the room for its stops a part is
+# expected to need, and how much room there has to be.
+FIRST_PART, MOST_PARTS, FULL, LEAST_ROOM = 100_000, 4, 0.8, 1000
+MOST_BREAKS = 60_000
+PAGE = Watched(0, 0x10000)
 
 
-def last_hit(workspace: Workspace, breaks: Sequence[int], now: int) -> State | None:
-    """The state at the last moment at a break before a moment."""
-    with ThreadPoolExecutor(1) as pool:
-        start = pool.submit(_hits, workspace, breaks, 0, EARLY)
-        late = _before(_hits(workspace, breaks, now - LATE - 1, LATE), now) if now > LATE else []
-        if late:
-            return late[-1]
-        early = start.result()
-    if early and not early[-1].is_end and early[-1].count < now:
-        return _far_hit(workspace, breaks, early[-1].count, now)
-    found = _before(early, now)
-    if found:
-        return found[-1]
-    return moments.look(workspace, []) if START in breaks else None
+STORING = re.compile(b"[" + b"".join(b"\\x%02x" % byte for byte in range(256) if can_store(byte)) + b"]")
 
 
-def _before(states: Sequence[State], now: int) -> list[State]:
-    return [state for state in states if state.count < now and not state.is_end]
+def storing(memory: bytes) -> set[int]:
+    """Where a byte stands that may be an instruction that stores."""
+    return {found.start() for found in STORING.finditer(memory)}
 
 
-def _hits(workspace: Workspace, breaks: Sequence[int], first: int, most: int) -> list[State]:
-    """The states at breaks behind a moment, and the end, if there are not so many."""
-    lines = workspace.debug([*moments.to(first), *moments.breaks(breaks), *["run", *LOOK] * most])
-    size = 1 + LINES_OF_LOOK
-    found: list[State] = []
-    for at in range(len(lines) - most * size, len(lines), size):
-        found.append(moments.state(lines[at + 1 : at + 5]))
-        if found[-1].is_end:
-            break
-    return found
-
-
-def _far_hit(workspace: Workspace, breaks: Sequence[int], first: int, now: int) -> State:
-    """The last of many hits before a moment, from one of them on."""
-    most = MOST_COMMANDS - len(breaks) - 2
-    is_all = False
-    while not is_all and first < now:
-        hits, is_all = moments.hits(workspace, breaks, first, most)
-        before = [place.count for place in hits if place.count < now]
-        is_all = is_all or len(before) < len(hits)
-        first = before[-1] if before else first
-    return moments.look(workspace, moments.to(first))
+class Unsure(Exception):
+    """Where a store may be that is not seen."""
 
 
 def near_store(workspace: Workspace, watched: Watched, now: int) -> tuple[Change | None, State | None]:
@@ -84,3 +63,141 @@ def near_store(workspace: Workspace, watched: Watched, now: int) -> tuple[Change
             state = moments.state(lines[at + size : at + whole]) if at >= start else None
             return Change(place, bytes_at[0], bytes_at[1]), state
     return None, None
+
+
+@dataclass
+class Part:
+    """What is known of the moments from one up to another: the bytes at the start and at the end, the last store that
+    changed them, and where instructions may have come to be that store unseen."""
+
+    first: int
+    before: bytes
+    after: bytes = b""
+    change: Change | None = None
+    suspects: set[int] = field(default_factory=set)
+    stops: int = 0
+
+
+class FarStores:
+    """Looks for the last store before a moment, in a run whose program is loaded from a ROM."""
+
+    def __init__(self, workspace: Workspace, horizon: Horizon, rom: bytes) -> None:
+        self.workspace = workspace
+        self.horizon = horizon
+        self.stops = storing(bytes(0x100) + rom[:0xFF00])
+        self._lock = Lock()
+        self.most = (MOST_COMMANDS - len(self.stops) - 2 * len(PAGE.commands())) // 2
+
+    def last(self, watched: Watched, now: int) -> Change | None:
+        """The last store at a moment before one."""
+        end, length, parts = now, FIRST_PART, 1
+        later: Part | None = None
+        suspects: set[int] = set()
+        if self.most < LEAST_ROOM:
+            raise Unsure
+        with ThreadPoolExecutor(MOST_PARTS) as pool:
+            while end > 0:
+                bounds = [end, *(end - length * index for index in range(1, parts) if end > length * index)]
+                bounds.append(max(0, end - length * parts))
+                found = list(pool.map(lambda last, first: self._part(watched, first, last), bounds, bounds[1:]))
+                for part in found:
+                    if later and part.after != later.before:
+                        raise Unsure
+                    later = part
+                    suspects |= part.suspects
+                    if part.change:
+                        self._check(suspects, part.first, now)
+                        return part.change
+                each = max(part.stops for part in found) / length
+                end, length = bounds[-1], int(min(max(FULL * self.most / (each + 1e-9), FIRST_PART), 1e9))
+                parts = min(MOST_PARTS, os.cpu_count() or 1, end // FIRST_PART + 1)
+        self._check(suspects, 0, now)
+        return None
+
+    def _debug(self, commands: Sequence[str], last: int) -> list[str]:
+        with self._lock:
+            reach = self.horizon.to(last)
+        return self.workspace.debug(commands, (reach.script, reach.budget))
+
+    def _check(self, suspects: set[int], first: int, last: int) -> None:
+        """Whether the run comes to none of these addresses at moments from one up to another."""
+        if len(suspects) > MOST_BREAKS:
+            raise Unsure
+        commands = [*moments.to(first), "where", *moments.breaks(sorted(suspects)), "run"]
+        here, *_, there = self._debug(commands, last)[len(moments.to(first)) :]
+        place, later = log.place(here), log.place(there)
+        if place and place.address in suspects or later and later.count < last:
+            raise Unsure
+
+    def _part(self, watched: Watched, first: int, last: int) -> Part:
+        """Follows the run at moments from one up to another."""
+        stops = self._stops(first, last)
+        page = next(stops)
+        assert isinstance(page, bytes)
+        twice = page + page
+        part = Part(first, twice[watched.address : watched.address + watched.length])
+        part.suspects = storing(page)
+        part.after = part.before
+        wanted = {(watched.address + at) & 0xFFFF for at in range(watched.length)}
+        for lines in stops:
+            self._follow(part, watched, wanted, lines)
+        part.suspects -= self.stops
+        return part
+
+    def _follow(self, part: Part, watched: Watched, wanted: set[int], lines: Sequence[str]) -> None:
+        """Follows the stops that some lines show, three each. What an instruction stores to is said by its address,
+        its name and the tops of the stacks."""
+        places, working, returning = lines[::3], lines[1::3], lines[2::3]
+        keys = [
+            f"{place[3:7]}{place.split(' ', 4)[3]}{one[-5:]}{other[-5:]}"
+            for place, one, other in zip(places, working, returning)
+        ]
+        part.stops += len(keys)
+        stores = set()
+        for key, at in dict(zip(keys, range(len(keys)))).items():
+            stop = _stop(lines, at)
+            if stop.is_device():
+                raise Unsure
+            targets = stop.stored().keys()
+            part.suspects |= targets
+            if targets & wanted:
+                stores.add(key)
+        for at in [at for at, key in enumerate(keys) if key in stores] if stores else []:
+            stop = _stop(lines, at)
+            after = bytearray(part.after)
+            for address, byte in stop.stored().items():
+                if address in wanted:
+                    after[(address - watched.address) & 0xFFFF] = byte
+            if after != part.after:
+                part.change = Change(stop.place, part.after, bytes(after))
+                part.after = bytes(after)
+
+    def _stops(self, first: int, last: int) -> Iterator[bytes | list[str]]:
+        """The memory at a moment, and then the lines of the stops from there up to another moment."""
+        breaks, here = moments.breaks(sorted(self.stops)), first
+        while True:
+            page = PAGE.commands() if here == first else []
+            commands = [*moments.to(here), *page, "where", "stacks", *breaks, *["run", "stacks"] * self.most]
+            lines = self._debug(commands, last)[len(moments.to(here)) :]
+            shown = sum(map(log.lines_shown, page))
+            if page:
+                yield log.memory(lines[:shown])
+            now, runs = lines[shown : shown + 3], lines[shown + 3 + len(breaks) :]
+            if page and int(now[0][3:7], 16) in self.stops:
+                yield now
+            count = bisect_left(range(self.most), last, key=lambda at: _count(runs[3 * at]))
+            yield runs[: 3 * count]
+            if count < self.most:
+                return
+            here = _count(runs[3 * (count - 1)])
+
+
+def _stop(lines: Sequence[str], at: int) -> Stop:
+    place = log.place(lines[3 * at])
+    assert place is not None, "the end is no stop"
+    return Stop(place, log.stacks(lines[3 * at + 1 : 3 * at + 3]), b"")
+
+
+def _count(line: str) -> int:
+    """The moment that a line of a place says."""
+    return int(line.split(" ")[2 if line.startswith("at ") else 1])

@@ -4,8 +4,9 @@ from __future__ import annotations
 
 from collections.abc import Callable, Sequence
 from dataclasses import dataclass
+from functools import cache
 
-from uxntools import log, moments, opcodes
+from uxntools import log, opcodes
 from uxntools.moments import State
 
 # How many moments are followed back.
@@ -32,6 +33,7 @@ def return_address(name: str, address: int) -> int:
     return (address + (3 if name == "JSI" else 1)) & 0xFFFF
 
 
+@cache
 def growth(name: str) -> int:
     """By how many bytes an instruction makes the return stack grow."""
     found = opcodes.instruction(name)
@@ -40,25 +42,12 @@ def growth(name: str) -> int:
     return found.growth if found.in_return_mode else found.other_growth
 
 
-def first_of(here: State) -> int:
-    """The first moment that is followed back to."""
-    return max(0, here.count - WINDOW)
-
-
-def commands(here: State) -> list[str]:
-    """The commands that show the places from there on, and lead to the state."""
-    first = first_of(here)
-    return [*moments.to(first), "where", *["step 1"] * (here.count - first)]
-
-
 def frames(lines: Sequence[str], here: State, most: int, is_lambda: Callable[[int], bool]) -> tuple[list[Frame], bool]:
-    """The innermost calls that did not return yet, so many at most, by what these commands show; and whether these
+    """The innermost calls that did not return yet, so many at most, by the places before a state; and whether these
     are all of the vector, which is followed back to its start, but not too far."""
     found: list[Frame] = []
     depth = low = here.returning.depth
-    first = first_of(here)
-    start = len(moments.to(first))
-    for place in reversed([place for place in map(log.place, lines[start : start + here.count - first]) if place]):
+    for place in filter(None, map(log.place, reversed(lines))):
         if place.name == "BRK":
             return found, True
         depth -= growth(place.name)
@@ -67,4 +56,4 @@ def frames(lines: Sequence[str], here: State, most: int, is_lambda: Callable[[in
             if len(found) == most:
                 return found, False
         low = min(low, depth)
-    return found, not first
+    return found, len(lines) == here.count

@@ -19,8 +19,6 @@ from uxntools.stores import MOST_BYTES, Watched
 
 Action = Callable[["Prompt", list[str]], None]
 AROUND = 5
-# The names that the devices have in most sources; their labels are ports.
-DEVICE = re.compile(r"(System|Console|Screen|Audio\d*|Controller|Mouse|File\d*|DateTime)[/+]")
 MOST_LABELS = 200
 MOST_MOMENT = 2**63
 
@@ -171,10 +169,11 @@ class Prompt(cmd.Cmd):
         self.show(self.session.go_to(number(one(words), 0)))
 
     def do_watch(self, words: list[str]) -> None:
-        address, length, _ = self.span(words, 1)
+        address, length, name = self.span(words, 1)
+        places.refuse_port(name, address)
         found = self.session.last_store(Watched(address, length))
         if found is None:
-            print(f"nothing changed {address:04x} before this moment")
+            print(f"nothing changed {address:04x} before this moment{places.note_of_ports(address)}")
             return
         change, state = found
         print(f"{address:04x} was {change.before.hex(' ')}, became {change.after.hex(' ')} by")
@@ -239,8 +238,7 @@ class Prompt(cmd.Cmd):
     def do_print(self, words: list[str]) -> None:
         name = one(words)
         address = self.session.address(name)
-        later = [at for at in self.session.program.labels.addresses if at > address]
-        length = min(later[0] - address if later else 1, 64)
+        length = self.session.length_at(address)
         data = self.session.memory(name, address, length)
         line = f"{address:04x} {data.hex(' ')}"
         if length <= 2:
@@ -249,7 +247,7 @@ class Prompt(cmd.Cmd):
         if len(text) > 2 and all(0x20 <= byte < 0x7F or byte in b"\t\n" for byte in text):
             line += f"  {text.decode()!r}"
         print(line)
-        if address < 0x100 and DEVICE.match(places.of_address(self.session.program, address)):
+        if places.is_port(self.session.program, address):
             page = self.session.ports()
             print(f"port {address:02x} {page[address:address + length].hex(' ')}")
 
@@ -358,13 +356,15 @@ COMMANDS = {
     "delete": Command(Prompt.do_delete, "WHERE", "takes a break away", "d"),
     "run": Command(Prompt.do_run, "", "goes on to the next moment at a break, or to the end", "r", "c", "continue"),
     "step": Command(Prompt.do_step, "[N]", "goes N instructions on", "s"),
-    "next": Command(Prompt.do_next, "", "goes one instruction on, and over a subroutine that it calls", "n"),
-    "finish": Command(Prompt.do_finish, "", "goes on to where this subroutine returns", "f"),
+    "next": Command(
+        Prompt.do_next, "", "goes one instruction on, and over a subroutine that it calls, or to a break before", "n"
+    ),
+    "finish": Command(Prompt.do_finish, "", "goes on to where this subroutine returns, or to a break before", "f"),
     "back": Command(Prompt.do_back, "[N]", "goes N instructions back"),
     "reverse-run": Command(Prompt.do_reverse_run, "", "goes back to the last earlier moment at a break", "rr"),
     "goto": Command(Prompt.do_goto, "N", "goes to moment N", "g"),
     "watch": Command(
-        Prompt.do_watch, "WHERE [LENGTH]", "shows the last store before this moment that changed these bytes", "w"
+        Prompt.do_watch, "WHERE [LENGTH]", "shows the last store to memory so far that changed these bytes", "w"
     ),
     "where": Command(Prompt.do_where, "", "shows the moment, the instruction, and the line of the source"),
     "calls": Command(Prompt.do_calls, "", "shows the calls that did not return yet, the innermost first", "bt"),
@@ -374,11 +374,11 @@ COMMANDS = {
     "stacks": Command(Prompt.do_stacks, "", "shows both stacks: the depth and up to eight topmost bytes"),
     "mem": Command(Prompt.do_mem, "WHERE [LENGTH]", "shows memory (16 bytes)", "m", "x"),
     "ports": Command(Prompt.do_ports, "", "shows what the 256 ports read"),
-    "print": Command(Prompt.do_print, "WHERE", "shows the bytes from a label up to the next one", "p"),
+    "print": Command(Prompt.do_print, "WHERE", "shows the bytes up to the next label, or to the end of the ROM", "p"),
     "labels": Command(Prompt.do_labels, "[TEXT]", "lists the labels that have TEXT in their names"),
     "shot": Command(Prompt.do_shot, "[FILE]", "writes the screen at this moment as a PNG file"),
     "output": Command(Prompt.do_output, "", "shows what the whole run prints"),
-    "save": Command(Prompt.do_save, "NAME", "writes this session as NAME.commands and NAME.log"),
+    "save": Command(Prompt.do_save, "NAME", "writes the breaks, moves and looks so far as NAME.commands and NAME.log"),
     "reload": Command(Prompt.do_reload, "", "reads the program anew, and begins at the first moment"),
     "help": Command(Prompt.do_help, "[COMMAND]", "says what the commands do", "h", "?"),
     "quit": Command(Prompt.do_help, "", "ends the session", "q", "exit"),

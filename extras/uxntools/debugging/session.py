@@ -6,21 +6,21 @@ import os
 from collections.abc import Callable
 from dataclasses import dataclass, replace
 
-from uxntools import events, log, moments, opcodes, places, program
+from uxntools import events, opcodes, places, program
 from uxntools.cli import Failure
 from uxntools.debugging import backwards, frames
+from uxntools.debugging.backwards import FarStores, Unsure
 from uxntools.debugging.frames import Frame
 from uxntools.debugging.known import Known
 from uxntools.horizon import Horizon
-from uxntools.log import MOST_COMMANDS
-from uxntools.moments import RETURN_POINTER, State
+from uxntools.moments import State
 from uxntools.stores import MOST_SHOWN, Change, Stores, Watched
 from uxntools.target import Target, Workspace
 
-# How often a run stops at breaks.
-MOST_STOPS = 20000
-# How many calls are shown.
-MOST_FRAMES = 64
+# How many calls are shown, and how many moments are followed back for them.
+MOST_FRAMES, WINDOW = 64, 30_000
+# How many bytes of a label are shown, and of one without a label behind it.
+MOST_PRINTED, MOST_OF_LAST = 64, 16
 # The address that a ROM is loaded at.
 START = 0x0100
 
@@ -35,14 +35,6 @@ class Record:
     command: str = ""
 
 
-def is_end(state: State) -> bool:
-    return state.is_end
-
-
-def is_end_of_both(found: tuple[Frame, State]) -> bool:
-    return found[1].is_end
-
-
 class Session:
     """A session over a program. `note` is given what a user should know beside the answer."""
 
@@ -51,7 +43,9 @@ class Session:
         self.note = note
         self.breaks: dict[int, str] = {}
         self.records: list[Record] = []
+        # What looks for stores, and before which moment.
         self._stores: Stores | None = None
+        self._stores_to = 0
         self._open()
 
     def _open(self) -> None:
@@ -59,17 +53,15 @@ class Session:
         try:
             self.program = self.workspace.program()
             self.rom = self.workspace.rom()
-            done, _ = self.workspace.try_play(self.workspace.script())
+            done, made = self.workspace.try_play(self.workspace.script(), "report")
             if done.status in program.ENDED_EARLY:
                 self._shorten(done.status)
+                self.horizon = Horizon(self.workspace)
             else:
                 program.accepted(done)
-            self.horizon = Horizon(self.workspace)
-            self.horizon.reach(0)
+                self.horizon = Horizon(self.workspace, made["report"])
             self.known = Known(self.workspace, self.horizon)
-            # Where each `run` began that led to a moment, and its breaks: no moment between is at one of them.
-            self._runs: dict[int, tuple[int, frozenset[int]]] = {}
-            self.here = self.known.look([])
+            self.here = self.known.at(0)
         except BaseException:
             self.workspace.close()
             raise
@@ -117,12 +109,6 @@ class Session:
         self.records.append(Record("move", state.count, command))
         return state
 
-    def _to_here(self) -> list[str]:
-        return moments.to(self.here.count)
-
-    def _all_breaks(self, *more: int) -> list[str]:
-        return moments.breaks(sorted({*self.breaks, *more}))
-
     def set_break(self, where: str) -> int:
         address = self.address(where)
         self.breaks[address] = where
@@ -149,17 +135,9 @@ class Session:
         at = places.line_of(self.program, self.here.address)
         return places.address_of(self.program, where, at[0] if at else self.target.source)
 
-    def _go_on(self, look: Callable[[], State]) -> State:
-        """The state that a look answers which goes on from the present moment, perhaps far."""
-        return self.horizon.search(self.here.count, look, is_end)
-
     def run(self) -> State:
         """Goes on to the next moment at a break, or to the end."""
-        before = self.here.count
-        commands = [*self._to_here(), *self._all_breaks(), "run"]
-        state = self._move(self._go_on(lambda: self.known.look(commands)), "run")
-        self._runs[state.count] = (before, frozenset(self.breaks))
-        return state
+        return self._move(self.known.next_hit(self.here.count, frozenset(self.breaks)), "run")
 
     def step(self, count: int = 1) -> State:
         return self._move(self.known.at(self.here.count + count), f"step {count}")
@@ -180,28 +158,28 @@ class Session:
         here = self.here
         if here.address is None or not frames.is_call(here.name) or self._is_lambda(here.address):
             return self.step()
-        returns_to = frames.return_address(here.name, here.address)
-        return self._returned(self._go_on(lambda: self._first_return(returns_to, here.returning.depth)))
+        return self._returned(self._first_return(frames.return_address(here.name, here.address), here.returning.depth))
 
     def finish(self) -> tuple[Frame, State]:
         """To the return of the subroutine that the session stands in."""
-        frame, state = self.horizon.search(self.here.count, self._finish, is_end_of_both)
-        return frame, self._returned(state)
+        frame = self._innermost()
+        return frame, self._returned(self._first_return(frame.returns_to, frame.depth))
 
-    def _finish(self) -> tuple[Frame, State]:
-        """The innermost call and its return. Most return addresses are on the top of the stack: the run that shows
-        the call goes on to there."""
-        stack = self.here.returning
+    def _innermost(self) -> Frame:
+        """The innermost call. Most return addresses are on the top of the stack: where a run is needed to find the
+        call, it goes on to there."""
+        here, stack = self.here.count, self.here.returning
         guess = Frame(None, 0, int.from_bytes(stack.top[-2:], "big"), stack.depth - 2)
-        more = [*self._all_breaks(guess.returns_to), "run", *moments.LOOK]
-        lines = self.workspace.debug([*frames.commands(self.here), *more])
-        found, is_all = frames.frames(lines, self.here, 1, self._is_lambda)
+        if not self.known.has_trail_to(here, WINDOW):
+            self.horizon.reach_behind(here, 0)
+            self.known.look(here, sorted({*self.breaks, guess.returns_to}))
+        found, is_all = self._frames(1)
         if not found and is_all:
             raise Failure("this is no subroutine: no call of this vector is on the return stack")
-        frame = found[0] if found else self._far_frame(guess)
-        guessed = moments.state(lines[-moments.LINES_OF_LOOK :])
-        is_guess = (frame.returns_to, frame.depth) == (guess.returns_to, guess.depth)
-        return frame, self._first_return(frame.returns_to, frame.depth, guessed if is_guess else None)
+        return found[0] if found else self._far_frame(guess)
+
+    def _frames(self, most: int) -> tuple[list[Frame], bool]:
+        return frames.frames(self.known.trail_to(self.here.count, WINDOW), self.here, most, self._is_lambda)
 
     def _far_frame(self, guess: Frame) -> Frame:
         """The call of a subroutine that has run for long: the one before the address on top of the return stack."""
@@ -210,7 +188,7 @@ class Session:
             if guess.depth >= 0 and self._instruction_at(address) == name and not self._is_lambda(address):
                 self.note("its call is far back; the address on top of the return stack is taken")
                 return replace(guess, address=address)
-        raise Failure(f"no call of the last {frames.WINDOW} instructions is on the return stack")
+        raise Failure(f"no call of the last {WINDOW} instructions is on the return stack")
 
     def _instruction_at(self, address: int) -> str:
         """The name of the instruction at an address of the program as it is loaded."""
@@ -224,13 +202,11 @@ class Session:
 
     def frames(self) -> list[Frame]:
         """The calls that did not return yet, the innermost first."""
-        self.horizon.reach(self.here.count)
-        lines = self.workspace.debug(frames.commands(self.here))
-        found, is_all = frames.frames(lines, self.here, MOST_FRAMES, self._is_lambda)
+        found, is_all = self._frames(MOST_FRAMES)
         if not found and is_all:
             self.note("no call of this vector is on the return stack")
         elif not is_all:
-            self.note(f"those of the last {frames.WINDOW} instructions, or the innermost {MOST_FRAMES}:")
+            self.note(f"those of the last {WINDOW} instructions, or the innermost {MOST_FRAMES}:")
         return found
 
     def _is_lambda(self, address: int) -> bool:
@@ -238,27 +214,13 @@ class Session:
         row = self.program.by_address.get(address)
         return row is not None and row.word == b"{"
 
-    def _first_return(self, address: int, depth: int, first: State | None = None) -> State:
-        """The first moment at an address with a return stack of at most this depth, or an earlier one at a break; the
-        first stop may be known."""
-        state = first or self.known.look([*self._to_here(), *self._all_breaks(address), "run"])
+    def _first_return(self, address: int, depth: int) -> State:
+        """The first moment at an address with a return stack of at most this depth, or an earlier one at a break."""
+        stops = frozenset({*self.breaks, address})
+        state = self.known.next_hit(self.here.count, stops)
         while not (state.is_end or state.address in self.breaks or state.returning.depth <= depth):
-            state = self._stop_behind(state, address, depth)
+            state = self.known.next_hit(state.count, stops)
         return state
-
-    def _stop_behind(self, state: State, address: int, depth: int) -> State:
-        """The first stop behind a state that is at a break or not too deep, or else the last of many."""
-        before = [*moments.to(state.count), *self._all_breaks(address)]
-        most = min(MOST_STOPS, (MOST_COMMANDS - len(before)) // 2)
-        commands = [*before, *["run", "ports"] * most]
-        lines = self.workspace.debug(commands)[-17 * most :]
-        for at in range(0, len(lines), 17):
-            place = log.place(lines[at])
-            count = place.count if place else log.end(lines[at]) or 0
-            pointer = log.memory(lines[at + 1 : at + 2])[RETURN_POINTER]
-            if place is None or place.address in self.breaks or pointer <= depth:
-                break
-        return self.known.look(moments.to(count))
 
     def reverse_run(self) -> State:
         """Back to the last earlier moment at a break, or to the first moment."""
@@ -266,11 +228,7 @@ class Session:
             raise Failure("there is no break")
         if not self.here.count:
             raise Failure("this is the first moment")
-        before, breaks = self._runs.get(self.here.count, (0, None))
-        if breaks == frozenset(self.breaks) and self.known.at(before).address in self.breaks:
-            return self._move(self.known.at(before))
-        self.horizon.reach(self.here.count)
-        found = backwards.last_hit(self.workspace, sorted(self.breaks), self.here.count)
+        found = self.known.last_hit(self.here.count, frozenset(self.breaks))
         if found is None:
             self.note("no earlier moment is at a break: this is the first one")
             found = self.known.at(0)
@@ -286,6 +244,15 @@ class Session:
             Record("look", self.here.count, f"mem {name} {length}" if name else command) for command in commands
         ]
         return self.known.memory(self.here.count, Watched(address, length))
+
+    def length_at(self, address: int) -> int:
+        """How many bytes are those of a label: up to the next one, but not too many. The last one ends with the ROM,
+        with the page of the ports before it, or with the memory behind it."""
+        later = [at for at in self.program.labels.addresses if at > address]
+        if later:
+            return min(later[0] - address, MOST_PRINTED)
+        ends = (START, START + len(self.rom), 0x10000)
+        return min(next(end for end in ends if address < end) - address, MOST_OF_LAST)
 
     def ports(self) -> bytes:
         """What the ports read at the present moment."""
@@ -308,7 +275,15 @@ class Session:
         return self._far_store(watched, self.here.count - backwards.NEAR)
 
     def _far_store(self, watched: Watched, last: int) -> tuple[Change, State] | None:
-        if self._stores is None or self._stores.run.end <= last:
-            self._stores = Stores(self.workspace, self.rom)
-        changes = self._stores.changes(watched, 0, last)
-        return (changes[-1], self.known.at(changes[-1].place.count)) if changes else None
+        try:
+            change = FarStores(self.workspace, self.horizon, self.rom).last(watched, last)
+        except Unsure:
+            change = self._any_store(watched, last)
+        return (change, self.known.at(change.place.count)) if change else None
+
+    def _any_store(self, watched: Watched, last: int) -> Change | None:
+        """The same of a program that changes its instructions, or whose memory devices change."""
+        if self._stores is None or self._stores_to <= last:
+            self._stores, self._stores_to = Stores(self.workspace, self.rom), self.horizon.known_to
+        changes = self._stores.changes(watched, 0, last - 1)
+        return changes[-1] if changes else None

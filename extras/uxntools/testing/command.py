@@ -10,7 +10,7 @@ import time
 from collections.abc import Sequence
 
 from uxntools import cli
-from uxntools.testing import comparing, showing, updating
+from uxntools.testing import comparing, showing, updating, warning
 from uxntools.testing.discovery import Test, discover
 from uxntools.testing.reporting import Reporter, TapReporter, junit
 from uxntools.testing.session import Options, Outcome, Session
@@ -21,8 +21,9 @@ DESCRIPTION = """Runs tests of Uxn programs, and says what differs from what is 
 A test is a set of files with one name, as tests/win.script and tests/win.out, or a folder with files script and out.
 It runs the program with the script (or a setup of machines, .setup; or in the debugger, .commands), over a copy of the
 files .root/, and compares the results with .out, .err, .status, .ppm, .samples, .report, .log and .after/.
-The program is the only source beside the folder tests, or the one that uxn-test.toml names. The status is 1 where a
-test failed or there are none."""
+The program is the only source beside the folder tests, or the one that uxn-test.toml names. Without a FOLDER or NAME
+the tests of every folder tests are run, in this folder and at any depth beneath it; a copy of the folder extras, with
+these tools, is skipped. The status is 1 where a test failed or there are none."""
 
 
 def shard(text: str) -> tuple[int, int]:
@@ -97,6 +98,12 @@ def chosen_tests(given: argparse.Namespace) -> list[Test]:
     return tests
 
 
+def warn(lines: Sequence[str]) -> None:
+    """Says what a user should know beside the outcome."""
+    for line in lines:
+        print(f"uxn-test: {line}", file=sys.stderr, flush=True)
+
+
 def run_all(tests: Sequence[Test], session: Session, reporter: Reporter) -> int:
     reporter.progress(session.finished)
     try:
@@ -126,6 +133,7 @@ def update(tests: Sequence[Test], session: Session, allowed: frozenset[str]) -> 
         print("\n    ".join([f"{head} {test.name}", *made.refused, *made.lines]), flush=True)
         if not made.refused:
             updating.write(test, made)
+            warn(warning.empty_folders(test, made.after))
         refused, recorded = refused + bool(made.refused), recorded + (head == "recorded")
     print(f"{recorded} recorded, {len(tests) - recorded - refused} unchanged, {refused} not recorded")
     return 1 if refused else 0
@@ -134,6 +142,7 @@ def update(tests: Sequence[Test], session: Session, allowed: frozenset[str]) -> 
 def watch(given: argparse.Namespace, session: Session) -> int:
     """Runs the tests, and then, as often as files change, those that these concern."""
     tests = chosen_tests(given)
+    warn(warning.unknown_files(tests) + warning.pictures(tests))
     concerned: list[Test] = tests
     while True:
         state = Watch(tests, session)
@@ -162,6 +171,7 @@ def main() -> int:
         return watch(given, Session(options))
     start = time.monotonic()
     tests, session = chosen_tests(given), Session(options)
+    warn(warning.unknown_files(tests) + ([] if given.update else warning.pictures(tests)))
     if given.update:
         return update(tests, session, given.allow)
     reporter = TapReporter(len(tests)) if given.tap else Reporter(len(tests), given.verbose, sys.stdout)

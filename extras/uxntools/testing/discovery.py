@@ -16,6 +16,8 @@ STARTS = ("script", "setup", "commands")
 WANTED = ("out", "err", "status", "ppm", "samples", "report", "log", "after")
 PARTS = frozenset((*STARTS, *WANTED, "root"))
 FOLDERS = ("root", "after")
+# What the folder of these tools has, wherever a copy of it lies: its own tests are none of the user's.
+OF_TOOLS = os.path.join("uxntools", "testing", "discovery.py")
 
 
 @dataclass(frozen=True)
@@ -135,7 +137,9 @@ def _with_sole_source(found: Configuration, folder: str) -> Configuration:
 
 def _is_looked_into(entry: os.DirEntry[str]) -> bool:
     is_of_test = entry.name.endswith((".root", ".after"))
-    return entry.is_dir(follow_symlinks=False) and not entry.name.startswith(".") and not is_of_test
+    if not entry.is_dir(follow_symlinks=False) or entry.name.startswith(".") or is_of_test:
+        return False
+    return not os.path.exists(os.path.join(entry.path, OF_TOOLS))
 
 
 def _project_above(folder: str, shown: str) -> Project | None:

@@ -12,7 +12,7 @@ from contextlib import contextmanager
 from uxntools import cli, program, script
 from uxntools.cli import Failure
 from uxntools.recording import Recorder, Session, Wrong
-from uxntools.testing import comparing, configuration, updating
+from uxntools.testing import comparing, configuration, updating, warning
 from uxntools.testing.discovery import Test, discover
 from uxntools.testing.running import kept_folder, run
 
@@ -21,7 +21,8 @@ DESCRIPTION = """Records a session at the terminal as a test: uxn-record game.ta
 Each line that is typed is input of the program, which runs again from the start with it; what is new of its output is
 shown. Ctrl-D ends the input and the session. A line that begins with : is a command, as :key q, :tap a, :frame 10;
 :help lists them. After each key, button and frame the picture is written to NAME.png. At the end the script and all
-that is wanted stand as a test that uxn-test passes."""
+that is wanted stand as a test that uxn-test passes. If a line that comes from no terminal cannot be done, nothing is
+written, and the status is 1."""
 
 
 def arguments() -> argparse.Namespace:
@@ -168,6 +169,8 @@ def write_test(given: argparse.Namespace, recorder: Recorder) -> int:
     if faults:
         raise Failure(f"{test.name} is written, but fails: {faults[0].part}: {faults[0].line}")
     print(f"recorded {test.name}: {', '.join(sorted(test.parts))}; uxn-test passes it")
+    for line in warning.empty_folders(test, None):
+        say(line)
     return 0
 
 
@@ -186,6 +189,8 @@ def main() -> int:
             converse(session)
         except Wrong as wrong:
             raise Failure(str(wrong)) from None
+        if session.wrong and not sys.stdin.isatty():
+            raise Failure(f"nothing is written: lines that could not be done: {session.wrong}")
         if not session.is_written:
             print("nothing is written")
             return 0

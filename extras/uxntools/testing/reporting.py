@@ -49,7 +49,7 @@ class Reporter:
 
     def _say(self, outcome: Outcome) -> None:
         if outcome.has_passed:
-            self._write(f"passed {outcome.test.name}{' (kept)' if outcome.is_old else ''}\n")
+            self._write(f"passed {outcome.test.name}{' (unchanged)' if outcome.is_old else ''}\n")
             return
         lines = [f"FAILED {outcome.test.name}", *("    " + line for line in outcome.lines)]
         if outcome.kept:

@@ -3,7 +3,7 @@ from __future__ import annotations
 
 import os
 import shutil
-from dataclasses import dataclass, field
+from dataclasses import dataclass, field, replace
 
 from uxntools.testing import comparing, showing
 from uxntools.testing.comparing import ALLOWED, Fault
@@ -114,7 +114,17 @@ def _record_after(test: Test, result: Result, made: Recording) -> None:
         return
     made.after = result.after
     for fault in comparing.after_faults(test, result):
-        made.show(showing.show(fault))
+        made.show(_shown_after(fault))
+
+
+def _shown_after(fault: Fault) -> Shown:
+    """A file after the run as it is recorded: one that is not wanted so far is new."""
+    path = fault.line.rpartition(": ")[0]
+    if fault.got is None:
+        return Shown([f"after: {path}: nothing any more"])
+    if fault.wanted is None:
+        fault = replace(fault, line=f"{path}: {len(fault.got)} bytes, new", wanted=b"")
+    return showing.show(fault)
 
 
 def write(test: Test, made: Recording) -> None:
