@@ -5,7 +5,7 @@ import functools
 import os
 import re
 import subprocess
-from collections.abc import Callable, Iterator
+from collections.abc import Iterator
 from dataclasses import dataclass, field
 
 from pagechecks import markdown
@@ -123,11 +123,7 @@ def name_faults(page: Page, there: Repository) -> Iterator[str]:
             yield f"no name {crate}::{name}"
 
 
-Check = Callable[[Page, Repository], Iterator[str]]
-
-
-def faults(page: Page, there: Repository, checks: list[Check] | None = None) -> list[str]:
-    """What is wrong with the names of a page, by all of these checks without a list of them."""
-    checks = checks or [link_faults, path_faults, option_faults, name_faults]
-    found = [fault for check in checks for fault in check(page, there)]
+def faults(page: Page, there: Repository) -> list[str]:
+    """What is wrong with the names of a page."""
+    found = [fault for check in (link_faults, path_faults, option_faults, name_faults) for fault in check(page, there)]
     return [f"{page.path}:{fault}" if fault[0].isdigit() else f"{page.path}: {fault}" for fault in dict.fromkeys(found)]

@@ -4,6 +4,7 @@ from __future__ import annotations
 import os
 import re
 import tempfile
+import textwrap
 from collections import Counter
 from collections.abc import Callable
 from concurrent.futures import ThreadPoolExecutor
@@ -11,7 +12,7 @@ from dataclasses import dataclass, field
 
 from conform import execute, making, tests
 from conform.execute import Command
-from conform.instructions import name_of
+from conform.instructions import IMMEDIATE, MODES, NAMES, name_of
 from conform.tests import Test
 
 SECONDS = 30
@@ -79,13 +80,29 @@ def fault_kinds() -> list[str]:
     return sorted({kind for cell in found for kind in cell.split(", ")} - {"IncludeHere"})
 
 
-def grid(label: Callable[[int], str], counts: Counter[int], width: int) -> list[str]:
-    """The numbers of tests of 256 rows, so many on a line."""
-    lines = ["| | " + " | ".join(f"`{column:x}`" for column in range(width)) + " |", "|---" * (width + 1) + "|"]
-    for first in range(0, 256, width):
-        cells = (f"{label(number)}{counts[number]}" for number in range(first, first + width))
-        lines.append(f"| `{first:02x}` | " + " | ".join(cells) + " |")
-    return lines
+def rows_of(heads: list[str], columns: list[str], number: Callable[[int, int], int]) -> list[str]:
+    """A block of text with a number for each row and column."""
+    lines = ["".join([" " * len(heads[0]), *(f"{column:>5}" for column in columns)])]
+    for row, head in enumerate(heads):
+        lines.append(head + "".join(f"{number(row, column):5}" for column in range(len(columns))))
+    return ["```text", *lines, "```"]
+
+
+def instructions(counts: Counter[int]) -> list[str]:
+    """A row for each operation, a column for each mode."""
+    columns = ["-" if mode == "" else mode for mode in MODES]
+    return rows_of(NAMES[1:], columns, lambda row, column: counts[32 * column + row + 1])
+
+
+def ports(counts: Counter[int]) -> list[str]:
+    """A row for each device, a column for each of its ports."""
+    heads, columns = [f"{row:x}0" for row in range(16)], [f"{column:x}" for column in range(16)]
+    return rows_of(heads, columns, lambda row, column: counts[16 * row + column])
+
+
+def listed(counts: list[tuple[str, int]]) -> list[str]:
+    """Names with their numbers, as a sentence."""
+    return textwrap.wrap(", ".join(f"{name} {count}" for name, count in counts) + ".", 100)
 
 
 def missing(found: Coverage) -> list[str]:
@@ -108,22 +125,20 @@ def page(found: Coverage) -> str:
         "",
         "## Instructions",
         "",
-        "The opcode is the sum of the row and the column.",
+        *instructions(found.opcodes),
         "",
-        *grid(lambda code: name_of(code) + " ", found.opcodes, 8),
+        *listed([(name, found.opcodes[code]) for code, name in IMMEDIATE.items()]),
         "",
         "## Ports that are read",
         "",
-        *grid(lambda port: "", found.reads, 16),
+        *ports(found.reads),
         "",
         "## Ports that are written",
         "",
-        *grid(lambda port: "", found.writes, 16),
+        *ports(found.writes),
         "",
         "## Kinds of faults",
         "",
-        "| kind | tests |",
-        "|---|---|",
+        *listed([(kind, found.faults[kind]) for kind in fault_kinds()]),
     ]
-    lines += [f"| {kind} | {found.faults[kind]} |" for kind in fault_kinds()]
     return "\n".join(lines) + "\n"
