@@ -1,5 +1,6 @@
 -- The console's ports (Varvara device reference: Console).
 use Rattle.std.specs.Prelude.{ℕ, List, slice_set}
+use Rattle.uxn_limits.specs.declared.ports.TheConstants.{CONSOLE_READ, CONSOLE_TYPE}
 use Rattle.console_port.specs.declared.EventKind.{EventKind}
 use Rattle.console_port.specs.declared.EventKind.TheVariants.{Input, Argument, Spacer, End}
 
@@ -10,6 +11,6 @@ event_byte Argument = 2
 event_byte Spacer = 3
 event_byte End = 4
 
--- an event of the console stores its byte in port 12 and its kind in port 17
+-- an event of the console stores its byte and its kind
 abbrev pub given : List ℕ → ℕ → EventKind → List ℕ
-given page value kind = slice_set (slice_set page 0x12 value) 0x17 (event_byte kind)
+given page value kind = slice_set (slice_set page CONSOLE_READ value) CONSOLE_TYPE (event_byte kind)

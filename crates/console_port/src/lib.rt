@@ -7,12 +7,8 @@ ghost use Rattle.console_port.specs.declared.Output.TheVariants.{Standard, Error
 ghost use Rattle.console_port.specs.Console.{event_byte, given};
 
 use uxn_io_traits::{Failed, Sink};
-
-/// The port that holds the byte of the last event.
-const READ: usize = 0x12;
-
-/// The port that holds the kind of the last event.
-pub const KIND: u8 = 0x17;
+use uxn_limits::ports;
+pub use uxn_limits::ports::CONSOLE_TYPE as KIND;
 
 /// Where a program writes bytes.
 #[derive(Clone, Copy)]
@@ -76,10 +72,10 @@ fn put_byte<S: Sink>(sink: &mut S, value: u8) -> Result<(), Failed>
     Ok(())
 }
 
-/// Stores an event: its byte in port 12, and the byte of its kind in port 17.
+/// Stores an event: its byte, and the byte of its kind.
 pub fn give(page: &mut [u8; 256], value: u8, kind: EventKind)
     ensures { page.new ≡ given page.old value kind }
 {
-    page[READ] = value;
-    page[usize::from(KIND)] = kind.byte();
+    page[usize::from(ports::CONSOLE_READ)] = value;
+    page[usize::from(ports::CONSOLE_TYPE)] = kind.byte();
 }

@@ -2,12 +2,13 @@
 use Rattle.std.specs.Prelude.{ℕ, ◌&&◌, nat_lt, if◌then◌else◌, List, [], ◌∷◌, codes, drop, length}
 use Rattle.std.specs.Prelude.{Option, Some, None, option_map, Result, Ok, Err}
 use Rattle.std.specs.Option.{ok_or}
+use Rattle.uxn_limits.specs.declared.limits.TheConstants.{MOST_STEPS, MOST_MOMENTS, MOST_PRINTED}
 use Rattle.text_lines.specs.declared.row.Counts.TheVariants.{Exactly}
 use Rattle.text_lines.specs.declared.row.LineFault.{LineFault}
 use Rattle.text_lines.specs.declared.row.LineFault.TheVariants as line
 use Rattle.text_lines.specs.Numbers.{begins_with, number_within}
-use Rattle.text_lines.specs.Reading.{Line}
-use Rattle.text_lines.specs.Rows.{Rows, keyword_row, counted}
+use Rattle.text_lines.specs.Reading.{Line, made}
+use Rattle.text_lines.specs.Rows.{Rows, keyword_of, line_by}
 use Rattle.tal_words.specs.declared.name.Label.{Label}
 use Rattle.tal_words.specs.Digits.{is_short_number, number_of_digits}
 use Rattle.tal_words.specs.Labels.{address_named}
@@ -21,10 +22,6 @@ use Rattle.debug_commands.specs.declared.keyword.Keyword.TheVariants as word
 -- a value, or what is wrong with it
 abbrev pub CommandVerdict : Type 0 → Type 0
 CommandVerdict A = Result A CommandKind
-
-abbrev pub made : {A B : Type 0} → (A → B) → CommandVerdict A → CommandVerdict B
-made make (Ok value) = Ok (make value)
-made make (Err kind) = Err kind
 
 -- an address: four lowercase digits, or `@` and the name of a label
 unfoldable pub address_in : List Label → List ℕ → CommandVerdict ℕ
@@ -57,11 +54,11 @@ unfoldable pub command_of : List Label → Keyword → List (List ℕ) → Comma
 command_of labels word.Break (a ∷ more) = made Break (address_in labels a)
 command_of labels word.Delete (a ∷ more) = made Delete (address_in labels a)
 command_of labels word.Run values = Ok Run
-command_of labels word.Step (n ∷ more) = ok_or (option_map Step (number_within 1 4294967295 n)) BadValue
-command_of labels word.Back (n ∷ more) = ok_or (option_map Back (number_within 1 65536 n)) BadValue
+command_of labels word.Step (n ∷ more) = ok_or (option_map Step (number_within 1 MOST_STEPS n)) BadValue
+command_of labels word.Back (n ∷ more) = ok_or (option_map Back (number_within 1 MOST_MOMENTS n)) BadValue
 command_of labels word.Where values = Ok Here
 command_of labels word.Stacks values = Ok Stacks
-command_of labels word.Mem (a ∷ n ∷ more) = memory_command (address_in labels a) (number_within 1 256 n)
+command_of labels word.Mem (a ∷ n ∷ more) = memory_command (address_in labels a) (number_within 1 MOST_PRINTED n)
 command_of labels word.Ports values = Ok PortPage
 command_of labels _ values = Err BadValue
 
@@ -70,13 +67,7 @@ command_kind_of line.Unknown = Unknown
 command_kind_of line.Missing = Missing
 command_kind_of line.Extra = Extra
 
-abbrev pub command_by : List Label → Result Keyword LineFault → List (List ℕ) → CommandVerdict DebugCommand
-command_by labels (Ok keyword) values = command_of labels keyword values
-command_by labels (Err fault) values = Err (command_kind_of fault)
-
 -- the command that the words of a line give, or what is wrong with them; a line without words or with `#` before its
 -- first gives none
 unfoldable pub command_line_of : List Label → List (List ℕ) → Line DebugCommand CommandKind
-command_line_of labels [] = Ok None
-command_line_of labels (name ∷ values) =
-    if begins_with 35 name then Ok None else made Some (command_by labels (counted (keyword_row rows name) (length values)) values)
+command_line_of labels words = line_by command_kind_of (command_of labels) (keyword_of rows words)

@@ -42,9 +42,9 @@ pub enum CommandKind {
     Missing,
     /// There are too many values.
     Extra,
-    /// With this line there are more than 65,536 commands.
+    /// With this line there are more than `MOST_COMMANDS` commands.
     ManyCommands,
-    /// The text has more than 4,194,304 bytes.
+    /// The text has more than `TEXT_LIMIT` bytes.
     LongCommands,
 }
 

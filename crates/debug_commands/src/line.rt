@@ -8,16 +8,8 @@ ghost use Rattle.debug_commands.specs.Lines.{address_in, command_line_of, comman
 use crate::command::{CommandKind, DebugCommand};
 use crate::keyword::{Keyword, rows};
 use tal_symbols::{Label, address_of};
-use text_lines::{begins_with, first_word, keyword_line, number_within};
-
-/// The most moments that one command goes on.
-const MOST_STEPS: u64 = 4_294_967_295;
-
-/// The most moments that one command goes back.
-const MOST_BACK: u64 = 65_536;
-
-/// The most bytes that one command prints.
-const MOST_BYTES: u64 = 256;
+use text_lines::{begins_with, first_word, keyword_of, number_within};
+use uxn_limits::limits;
 
 // The command that a line gives, if it gives one, or what is wrong with it by itself.
 #[tactic(auto, unfolding(crate::specs::Lines::command_line_of))]
@@ -27,18 +19,9 @@ pub(crate) fn command_line_of(
 ) -> Result<Option<DebugCommand>, CommandKind>
     ensures { result ≡ command_line_of labels.now (words_of line.now) }
 {
-    let Some((name, values)) = first_word(line) else {
-        return Ok(None);
-    };
-    if begins_with(b'#', name) {
-        return Ok(None);
-    }
-    match keyword_line(rows(), name, values) {
-        Ok(keyword) => match command_of(labels, keyword, values) {
-            Ok(command) => Ok(Some(command)),
-            Err(kind) => Err(kind),
-        },
-        Err(fault) => Err(CommandKind::from(fault)),
+    match keyword_of(rows(), line)? {
+        Some((keyword, values)) => Ok(Some(command_of(labels, keyword, values)?)),
+        None => Ok(None),
     }
 }
 
@@ -62,17 +45,17 @@ fn command_of(
     match keyword {
         Keyword::Break => Ok(DebugCommand::Break(address_in(labels, word)?)),
         Keyword::Delete => Ok(DebugCommand::Delete(address_in(labels, word)?)),
-        Keyword::Step => match number_within(1, MOST_STEPS, word) {
+        Keyword::Step => match number_within(1, limits::MOST_STEPS, word) {
             Some(count) => Ok(DebugCommand::Step(count as u32)),
             None => Err(CommandKind::BadValue),
         },
-        Keyword::Back => match number_within(1, MOST_BACK, word) {
+        Keyword::Back => match number_within(1, limits::MOST_MOMENTS as u64, word) {
             Some(count) => Ok(DebugCommand::Back(count as u32)),
             None => Err(CommandKind::BadValue),
         },
         _ => {
             let (count, _) = first_word(more).ok_or(CommandKind::BadValue)?;
-            let count = number_within(1, MOST_BYTES, count).ok_or(CommandKind::BadValue)?;
+            let count = number_within(1, limits::MOST_PRINTED, count).ok_or(CommandKind::BadValue)?;
             Ok(DebugCommand::Mem(address_in(labels, word)?, count as u16))
         }
     }

@@ -4,26 +4,10 @@
 ghost use Rattle.std.specs.Prelude.{◌≡◌, ◌<◌, length, slice_index};
 ghost use Rattle.input_ports.specs.Page.{stores_of, stores_after, vector_of, with_stores, short_stores, buttons_port, bits_set, bits_cleared};
 
-/// Where the controller's vector is stored, a short.
-pub const CONTROLLER_VECTOR: u8 = 0x80;
-
-/// Where the mouse's vector is stored, a short.
-pub const MOUSE_VECTOR: u8 = 0x90;
+use uxn_limits::ports;
 
 /// Player 1, whose buttons `Down` and `Up` are.
 const FIRST_PLAYER: u8 = 1;
-
-const KEY: usize = 0x83;
-
-const MOUSE_X: usize = 0x92;
-
-const MOUSE_Y: usize = 0x94;
-
-const MOUSE_STATE: usize = 0x96;
-
-const SCROLL_X: usize = 0x9a;
-
-const SCROLL_Y: usize = 0x9c;
 
 /// What a player does at the controller or the mouse (Varvara device reference).
 #[derive(Clone, Copy, PartialEq, Eq)]
@@ -49,32 +33,29 @@ pub enum Input {
 }
 
 // The port of a player's buttons.
-fn buttons_port(player: u8) -> usize
-    ensures port { result ≡ buttons_port player }
-    ensures within { result < 256 }
+fn buttons_port(player: u8) -> u8
+    ensures { result ≡ buttons_port player }
 {
     match player {
-        2 => 0x85,
-        3 => 0x86,
-        4 => 0x87,
-        _ => 0x82,
+        2 => ports::CONTROLLER_P2,
+        3 => ports::CONTROLLER_P3,
+        4 => ports::CONTROLLER_P4,
+        _ => ports::CONTROLLER_BUTTON,
     }
 }
 
 // Sets bits of the byte at a port.
-fn set_bits(page: &mut [u8; 256], port: usize, mask: u8)
-    requires { port < 256 }
+fn set_bits(page: &mut [u8; 256], port: u8, mask: u8)
     ensures { page.new ≡ with_stores page.old (bits_set (slice_index page.old) port mask) }
 {
-    page[port] = page[port] | mask;
+    page[usize::from(port)] |= mask;
 }
 
 // Clears bits of the byte at a port.
-fn clear_bits(page: &mut [u8; 256], port: usize, mask: u8)
-    requires { port < 256 }
+fn clear_bits(page: &mut [u8; 256], port: u8, mask: u8)
     ensures { page.new ≡ with_stores page.old (bits_cleared (slice_index page.old) port mask) }
 {
-    page[port] = page[port] & !mask;
+    page[usize::from(port)] &= !mask;
 }
 
 /// Stores an input at its ports, as its vector finds them.
@@ -84,20 +65,20 @@ pub fn apply(page: &mut [u8; 256], input: &Input)
     ensures size { length page.new ≡ 256 }
 {
     match *input {
-        Input::Key(byte) => page[KEY] = byte,
+        Input::Key(byte) => page[usize::from(ports::CONTROLLER_KEY)] = byte,
         Input::Down(mask) => set_bits(page, buttons_port(FIRST_PLAYER), mask),
         Input::Up(mask) => clear_bits(page, buttons_port(FIRST_PLAYER), mask),
         Input::DownOf(player, mask) => set_bits(page, buttons_port(player), mask),
         Input::UpOf(player, mask) => clear_bits(page, buttons_port(player), mask),
         Input::Mouse(x, y) => {
-            store_short(page, MOUSE_X, x);
-            store_short(page, MOUSE_Y, y);
+            store_short(page, ports::MOUSE_X, x);
+            store_short(page, ports::MOUSE_Y, y);
         }
-        Input::Press(mask) => set_bits(page, MOUSE_STATE, mask),
-        Input::Release(mask) => clear_bits(page, MOUSE_STATE, mask),
+        Input::Press(mask) => set_bits(page, ports::MOUSE_STATE, mask),
+        Input::Release(mask) => clear_bits(page, ports::MOUSE_STATE, mask),
         Input::Scroll(x, y) => {
-            store_short(page, SCROLL_X, x.cast_unsigned());
-            store_short(page, SCROLL_Y, y.cast_unsigned());
+            store_short(page, ports::MOUSE_SCROLL_X, x.cast_unsigned());
+            store_short(page, ports::MOUSE_SCROLL_Y, y.cast_unsigned());
         }
     }
 }
@@ -109,10 +90,10 @@ pub fn settle(page: &mut [u8; 256], input: &Input)
     ensures size { length page.new ≡ 256 }
 {
     match *input {
-        Input::Key(_) => page[KEY] = 0,
+        Input::Key(_) => page[usize::from(ports::CONTROLLER_KEY)] = 0,
         Input::Scroll(_, _) => {
-            store_short(page, SCROLL_X, 0);
-            store_short(page, SCROLL_Y, 0);
+            store_short(page, ports::MOUSE_SCROLL_X, 0);
+            store_short(page, ports::MOUSE_SCROLL_Y, 0);
         }
         _ => {}
     }
@@ -125,18 +106,19 @@ pub fn vector_port(input: &Input) -> u8
 {
     match *input {
         Input::Key(_) | Input::Down(_) | Input::Up(_) | Input::DownOf(_, _) | Input::UpOf(_, _) =>
-            CONTROLLER_VECTOR,
+            ports::CONTROLLER_VECTOR,
         Input::Mouse(_, _) | Input::Press(_) | Input::Release(_) | Input::Scroll(_, _) => {
-            MOUSE_VECTOR
+            ports::MOUSE_VECTOR
         }
     }
 }
 
 // Stores a short, its high byte at the port and its low byte at the next one.
-fn store_short(page: &mut [u8; 256], port: usize, value: u16)
+fn store_short(page: &mut [u8; 256], port: u8, value: u16)
     requires { port < 255 }
     ensures { page.new ≡ with_stores page.old (short_stores port value) }
 {
-    page[port] = (value / 256) as u8;
-    page[port + 1] = (value % 256) as u8;
+    let at = usize::from(port);
+    page[at] = (value / 256) as u8;
+    page[at + 1] = (value % 256) as u8;
 }

@@ -8,6 +8,7 @@ use Rattle.std.proofs.lemmas.Fmt.{digits_decimal, digits_value-decimal, decimal_
 use Rattle.std.proofs.lemmas.List.{get_or_past}
 use Rattle.std.proofs.lemmas.List.Elements.{All-head, All-tail, All-nil, All-cons, All-get_or, All-weaker}
 use Rattle.std.proofs.lemmas.List.Sums.{AllPass-from_list_all, list_all-from_AllPass}
+use Rattle.uxn_limits.specs.declared.limits.TheConstants.{LAST_SECOND, LAST_OFFSET}
 use Rattle.hex.specs.Hex.{encode_lower, encode_with, lower_digits, IsBytes}
 use Rattle.hex.proofs.HexLemmas.{length-encode_with, decode_of-encode_lower, decode_sized-encode_lower}
 use Rattle.play_script.specs.declared.values.Value.{Value}
@@ -156,8 +157,8 @@ plain_value (MouseButton mask) is = (mouse_button_back mask is).1
 plain_value (Player number) is = plain_decimal number (omega (arith, is.1))
 plain_value (Pixel at) is = plain_decimal at (omega (arith, is))
 plain_value (Turn steps) is = plain_signed 32768 32767 steps (omega arith) (omega arith) is.0 is.1
-plain_value (Seconds seconds) is = plain_signed 0 253370000000 seconds (omega arith) (omega arith) is.0 is.1
-plain_value (Minutes minutes) is = plain_signed 840 840 minutes (omega arith) (omega arith) is.0 is.1
+plain_value (Seconds seconds) is = plain_signed 0 LAST_SECOND seconds (omega arith) (omega arith) is.0 is.1
+plain_value (Minutes minutes) is = plain_signed LAST_OFFSET LAST_OFFSET minutes (omega arith) (omega arith) is.0 is.1
 
 pub plain_values : (values : List Value) → AreValues values → list_all is_plain (map value_word values) ≡ true
 plain_values [] is = refl

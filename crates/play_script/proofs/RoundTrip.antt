@@ -1,9 +1,9 @@
 -- A printed script is read back.
-use Rattle.std.proofs.Common.{◌≡◌, ℕ, ◌+◌, ◌<◌, ◌≤◌, Bool, true, false, cond, eqb, ltb, leb, ℤ, pos, negsuc, neg_ℤ, ◌≤ℤ◌, List, [], ◌∷◌, ◌++◌, length, map, Option, Some, None, Ok, Err, append_assoc, append-nil, refl, sym, ap, ◌∙◌, arith}
+use Rattle.std.proofs.Common.{◌≡◌, ℕ, ◌+◌, ◌<◌, ◌≤◌, Bool, true, false, eqb, ltb, leb, ℤ, pos, negsuc, neg_ℤ, ◌≤ℤ◌, List, [], ◌∷◌, ◌++◌, length, map, Option, Some, None, Ok, append_assoc, append-nil, refl, sym, ap, ◌∙◌, arith}
 use Rattle.std.specs.Prelude.{codes, decimal}
 use Rattle.std.specs.Fmt.{signed_decimal}
 use Rattle.std.specs.List.{All, list_all, flat_map, join_with_byte}
-use Rattle.std.specs.Option.{option_map}
+use Rattle.std.specs.Option.{option_map, option_zip}
 use Rattle.std.proofs.lemmas.Bool.{and_from, and_parts, ltb-true}
 use Rattle.std.proofs.lemmas.List.{length-append}
 use Rattle.std.proofs.lemmas.List.Concat.{flat_map-append}
@@ -11,26 +11,27 @@ use Rattle.std.proofs.lemmas.List.Elements.{All-head, All-tail, All-weaker}
 use Rattle.std.proofs.lemmas.List.Folds.{list_all-append}
 use Rattle.std.proofs.lemmas.List.Sums.{AllPass-from_list_all}
 use Rattle.std.proofs.lemmas.List.Splits.{slice_split_at}
+use Rattle.uxn_limits.specs.declared.limits.TheConstants.{TEXT_LIMIT, MOST_EVENTS, LAST_SECOND, LAST_OFFSET}
 use Rattle.hex.specs.Hex.{encode_lower}
 use Rattle.text_lines.specs.Lines.{is_blank, is_newline, lines_of, words_of}
 use Rattle.text_lines.specs.Numbers.{number_within, integer_within}
-use Rattle.text_lines.specs.Reading.{Line, given}
+use Rattle.text_lines.specs.Reading.{Line, given, made, each_line}
 use Rattle.text_lines.proofs.Cutting.{no_words, after_blank, prefix_word, not_lt}
 use Rattle.input_ports.specs.declared.Input.TheVariants.{Key, Down, Up, Mouse, Press, Release, Scroll, DownOf, UpOf}
 use Rattle.play_script.specs.declared.script.Clock.{Clock}
 use Rattle.play_script.specs.declared.script.Event.{Event}
 use Rattle.play_script.specs.declared.script.Event.TheVariants.{Input, EndInput, Frame, Device, Shot, Expect}
 use Rattle.play_script.specs.declared.script.ScriptKind.{ScriptKind}
-use Rattle.play_script.specs.declared.script.ScriptKind.TheVariants.{LongScript}
 use Rattle.play_script.specs.declared.script.Version.{Version}
 use Rattle.play_script.specs.declared.script.Version.TheVariants.{First, Second}
 use Rattle.play_script.specs.Limits.{IsEvent, IsScript, IsTime}
 use Rattle.play_script.specs.PlainText.{text_word, value_word, plain_event, event_words, clock_values, clock_words, argument_words, plain_lines, line_text, plain_text}
 use Rattle.play_script.specs.Rows.{Meaning, version, clock, arguments, event, rows_of, device_of, events_of_line, script_meaning_of, version_of, clock_of_values, keys_of, expect_of, buttons_of, mouse_buttons_of, mouse_of, scroll_of, script_line_of}
-use Rattle.play_script.specs.Scripts.{ScriptView, script_with, arguments_of, events_of, events_in, script_fault, script_lines, script_by, script_from, script_in, script_of, version_at, version_in}
-use Rattle.play_script.specs.Values.{texts_of_values, both_values, one_or}
-use Rattle.text_lines.specs.Rows.{keyword_row}
+use Rattle.play_script.specs.Scripts.{ScriptView, script_with, arguments_of, events_of, events_in, script_fault, script_from, script_of, version_at, version_in}
+use Rattle.play_script.specs.Values.{texts_of_values, one_or}
+use Rattle.text_lines.specs.Rows.{keyword_of, keyword_row}
 use Rattle.play_script.proofs.PrintedWords.{is_plain, weaker, number_back, integer_back, pairs_back, text_back, plain_text_word, one_byte, byte_back, button_back, mouse_button_back, plain_values}
+use Rattle.play_script.proofs.Stepping.{script_by, short_script}
 use Rattle.play_script.proofs.Versions.{lift}
 use borrow.Author.Differences.{le_out}
 
@@ -73,34 +74,31 @@ no_newlines : (line : List ℕ) → list_all (λ byte. leb 32 byte) line ≡ tru
 no_newlines line high = All-weaker (λ byte. leb 32 byte ≡ true) (λ byte. is_newline byte ≡ false) (λ byte here. grind arith) line (AllPass-from_list_all (λ byte. leb 32 byte) line high)
 
 -- the lines of a text are read back
-abbrev line_by : Version → List (List ℕ) → Line Meaning ScriptKind
-line_by number words = script_line_of number words
-
 cut_line : (line : List (List ℕ)) (lines : List (List (List ℕ))) → are_plain line ≡ true
     → lines_of (flat_map line_text (line ∷ lines)) ≡ join_with_byte 32 line ∷ lines_of (flat_map line_text lines)
 cut_line line lines plain =
     ap lines_of (append_assoc (join_with_byte 32 line) (10 ∷ []) (flat_map line_text lines))
     ∙ slice_split_at is_newline (join_with_byte 32 line) 10 (flat_map line_text lines) (no_newlines _ (high_bytes line plain)) refl
 
-empty_line : (number : Version) → line_by number (words_of []) ∷ [] ≡ Ok None ∷ []
-unfolding script_line_of words_of
+empty_line : (number : Version) → script_line_of number (words_of []) ∷ [] ≡ Ok None ∷ []
+unfolding script_line_of keyword_of words_of
 empty_line number = refl
 
-printed_lines : (number : Version) (lines : List (List (List ℕ))) → list_all are_plain lines ≡ true → script_lines number (lines_of (flat_map line_text lines)) ≡ map (line_by number) lines ++ Ok None ∷ []
+printed_lines : (number : Version) (lines : List (List (List ℕ))) → list_all are_plain lines ≡ true → each_line (script_line_of number) (lines_of (flat_map line_text lines)) ≡ map (script_line_of number) lines ++ Ok None ∷ []
 printed_lines number [] plain = empty_line number
 printed_lines number (line ∷ lines) plain =
     let parts = and_parts (are_plain line) (list_all are_plain lines) plain in
-    ap (script_lines number) (cut_line line lines parts.0)
-    ∙ ap (λ words. line_by number words ∷ script_lines number (lines_of (flat_map line_text lines))) (joined_words line parts.0)
-    ∙ ap (λ more. line_by number line ∷ more) (printed_lines number lines parts.1)
+    ap (each_line (script_line_of number)) (cut_line line lines parts.0)
+    ∙ ap (λ words. script_line_of number words ∷ each_line (script_line_of number) (lines_of (flat_map line_text lines))) (joined_words line parts.0)
+    ∙ ap (λ more. script_line_of number line ∷ more) (printed_lines number lines parts.1)
 
 -- the line of the clock
-seconds_back : (seconds : ℤ) → pos 0 ≤ℤ seconds → seconds ≤ℤ pos 253370000000 → option_map pos (number_within 0 253370000000 (signed_decimal seconds)) ≡ Some seconds
-seconds_back (pos n) from to = ap (option_map pos) (number_back 0 253370000000 n (omega arith) (omega (arith, le_out, to)) (omega (arith, le_out, to)))
+seconds_back : (seconds : ℤ) → pos 0 ≤ℤ seconds → seconds ≤ℤ pos LAST_SECOND → option_map pos (number_within 0 LAST_SECOND (signed_decimal seconds)) ≡ Some seconds
+seconds_back (pos n) from to = ap (option_map pos) (number_back 0 LAST_SECOND n (omega arith) (omega (arith, le_out, to)) (omega (arith, le_out, to)))
 seconds_back (negsuc n) from to = absurd (omega (arith, le_out, from))
 
 with_seconds : (time : Clock) (first : Option ℕ) (second : Option ℤ) → option_map pos first ≡ Some time.seconds → second ≡ Some time.offset
-    → both_values (λ seconds offset. record { seconds = pos seconds; offset = offset }) first second ≡ Some time
+    → option_map (λ both. record { seconds = pos both.0; offset = both.1 }) (option_zip first second) ≡ Some time
 with_seconds time None second found other = grind (arith, found)
 with_seconds time (Some n) second found other = let is : pos n ≡ time.seconds = grind (arith, found) in rw (other, is) refl
 
@@ -108,10 +106,10 @@ abbrev ReadsScript : Version → List (List ℕ) → Meaning → Type 0
 ReadsScript number words m = script_line_of number words ≡ Ok (Some m)
 
 clock_line : (time : Clock) → IsTime time → ReadsScript First (clock_words time) (clock time)
-unfolding script_line_of rows_of keyword_row script_meaning_of clock_of_values value_word
+unfolding script_line_of keyword_of rows_of keyword_row script_meaning_of clock_of_values value_word
 clock_line time is =
-    rw (with_seconds time (number_within 0 253370000000 (signed_decimal time.seconds)) (integer_within 840 840 (signed_decimal time.offset)) (seconds_back time.seconds is.seconds_from is.seconds_to)
-    (integer_back 840 840 time.offset (omega arith) (omega arith) is.offset_from is.offset_to)) refl
+    rw (with_seconds time (number_within 0 LAST_SECOND (signed_decimal time.seconds)) (integer_within LAST_OFFSET LAST_OFFSET (signed_decimal time.offset)) (seconds_back time.seconds is.seconds_from is.seconds_to)
+    (integer_back LAST_OFFSET LAST_OFFSET time.offset (omega arith) (omega arith) is.offset_from is.offset_to)) refl
 
 -- the line of the arguments
 abbrev AreBytes : List (List ℕ) → Type 0
@@ -123,7 +121,7 @@ texts_back (text ∷ texts) small =
     rw (text_back text (All-head (All (λ byte. byte < 256)) text texts small), texts_back texts (All-tail (All (λ byte. byte < 256)) text texts small)) refl
 
 args_line : (text : List ℕ) (texts : List (List ℕ)) → AreBytes (text ∷ texts) → ReadsScript First (codes "args" ∷ map text_word (text ∷ texts)) (arguments (text ∷ texts))
-unfolding script_line_of rows_of keyword_row script_meaning_of
+unfolding script_line_of keyword_of rows_of keyword_row script_meaning_of
 args_line text texts small =
     rw (not_lt (length (map text_word (text ∷ texts))) 1 (omega arith), text_back text (All-head (All (λ byte. byte < 256)) text texts small), texts_back texts (All-tail (All (λ byte. byte < 256)) text texts small)) refl
 
@@ -160,7 +158,7 @@ old : (number : Version) (e : Event) → ReadsEvent First e → ReadsEvent numbe
 old number e is = in_version number (event_words e) (event e) is
 
 event_line : (number : Version) (e : Event) → IsEvent number e → ReadsEvent number e
-unfolding script_line_of rows_of keyword_row script_meaning_of events_of_line device_of keys_of expect_of buttons_of mouse_buttons_of mouse_of scroll_of value_word one_or
+unfolding script_line_of keyword_of rows_of keyword_row script_meaning_of events_of_line device_of keys_of expect_of buttons_of mouse_buttons_of mouse_of scroll_of value_word one_or
 event_line number (Input byte) is = old number (Input byte) (rw (one_text byte is.within.0) refl)
 event_line number EndInput is = old number EndInput refl
 event_line number Frame is = old number Frame refl
@@ -191,16 +189,16 @@ plain_words number e is = and_from _ _ (plain_name e) (plain_values (plain_event
 abbrev ok_event : Event → Line Meaning ScriptKind
 ok_event e = Ok (Some (event e))
 
-given_events : (n : ℕ) (before : List Meaning) (more : List Event) → length (events_of before) + length more ≤ 1000000
-    → given script_fault n before (map ok_event more ++ Ok None ∷ []) ≡ Ok (before ++ map event more)
-given_events n before [] few = ap Ok (sym (append-nil before))
-given_events n before (e ∷ more) few =
-    let fits = not_lt 1000000 (length (events_of before) + 1) (omega (arith, few)) in
+given_events : (number : Version) (n : ℕ) (before : List Meaning) (more : List Event) → length (events_of before) + length more ≤ MOST_EVENTS
+    → given (script_fault number) n before (map ok_event more ++ Ok None ∷ []) ≡ Ok (before ++ map event more)
+given_events number n before [] few = ap Ok (sym (append-nil before))
+given_events number n before (e ∷ more) few =
+    let fits = not_lt MOST_EVENTS (length (events_of before) + 1) (omega (arith, few)) in
     let grown : length (events_of (before ++ event e ∷ [])) ≡ length (events_of before) + 1 =
     ap length (flat_map-append events_in before (event e ∷ [])) ∙ length-append (events_of before) (e ∷ []) in
-    rw fits (given_events (n + 1) (before ++ event e ∷ []) more (omega (arith, grown, few)) ∙ ap Ok (append_assoc before (event e ∷ []) (map event more)))
+    rw fits (given_events number (n + 1) (before ++ event e ∷ []) more (omega (arith, grown, few)) ∙ ap Ok (append_assoc before (event e ∷ []) (map event more)))
 
-events_read : (number : Version) (more : List Event) → All (IsEvent number) more → map (line_by number) (map event_words more) ≡ map ok_event more
+events_read : (number : Version) (more : List Event) → All (IsEvent number) more → map (script_line_of number) (map event_words more) ≡ map ok_event more
 events_read number [] valid = refl
 events_read number (e ∷ more) valid =
     rw (event_line number e (All-head (IsEvent number) e more valid), events_read number more (All-tail (IsEvent number) e more valid)) refl
@@ -213,21 +211,21 @@ start Second time [] = version ∷ clock time ∷ []
 start Second time (text ∷ texts) = version ∷ clock time ∷ arguments (text ∷ texts) ∷ []
 
 version_line : ReadsScript Second (codes "script" ∷ codes "2" ∷ []) version
-unfolding script_line_of rows_of keyword_row script_meaning_of version_of
+unfolding script_line_of keyword_of rows_of keyword_row script_meaning_of version_of
 version_line = refl
 
-all_given : (number : Version) (time : Clock) (texts : List (List ℕ)) (more : List Event) → IsTime time → AreBytes texts → All (IsEvent number) more → length more ≤ 1000000
-    → given script_fault 1 [] (map (line_by number) (plain_lines (script_with number time texts more)) ++ Ok None ∷ []) ≡ Ok (start number time texts ++ map event more)
+all_given : (number : Version) (time : Clock) (texts : List (List ℕ)) (more : List Event) → IsTime time → AreBytes texts → All (IsEvent number) more → length more ≤ MOST_EVENTS
+    → given (script_fault number) 1 [] (map (script_line_of number) (plain_lines (script_with number time texts more)) ++ Ok None ∷ []) ≡ Ok (start number time texts ++ map event more)
 unfolding plain_lines start
 all_given First time [] more is small valid few =
-    rw (clock_line time is, events_read First more valid) (given_events 2 (clock time ∷ []) more (omega (arith, few)))
+    rw (clock_line time is, events_read First more valid) (given_events First 2 (clock time ∷ []) more (omega (arith, few)))
 all_given First time (text ∷ texts) more is small valid few =
-    rw (clock_line time is, args_line text texts small, events_read First more valid) (given_events 3 (clock time ∷ arguments (text ∷ texts) ∷ []) more (omega (arith, few)))
+    rw (clock_line time is, args_line text texts small, events_read First more valid) (given_events First 3 (clock time ∷ arguments (text ∷ texts) ∷ []) more (omega (arith, few)))
 all_given Second time [] more is small valid few =
-    rw (version_line, in_version Second _ _ (clock_line time is), events_read Second more valid) (given_events 3 (version ∷ clock time ∷ []) more (omega (arith, few)))
+    rw (version_line, in_version Second _ _ (clock_line time is), events_read Second more valid) (given_events Second 3 (version ∷ clock time ∷ []) more (omega (arith, few)))
 all_given Second time (text ∷ texts) more is small valid few =
     rw (version_line, in_version Second _ _ (clock_line time is), in_version Second _ _ (args_line text texts small), events_read Second more valid)
-    (given_events 4 (version ∷ clock time ∷ arguments (text ∷ texts) ∷ []) more (omega (arith, few)))
+    (given_events Second 4 (version ∷ clock time ∷ arguments (text ∷ texts) ∷ []) more (omega (arith, few)))
 
 -- what they give makes the same script
 events_only : (more : List Event) → events_of (map event more) ≡ more
@@ -273,18 +271,18 @@ version_back First time texts more is = contents First (clock_words time) (argum
 version_back Second time texts more is =
     contents Second (codes "script" ∷ codes "2" ∷ []) (clock_words time ∷ (argument_words texts ++ map event_words more)) refl refl
 
-text_read : (number : Version) (script : ScriptView) → list_all are_plain (plain_lines script) ≡ true → script_lines number (lines_of (plain_text script)) ≡ map (line_by number) (plain_lines script) ++ Ok None ∷ []
+text_read : (number : Version) (script : ScriptView) → list_all are_plain (plain_lines script) ≡ true → each_line (script_line_of number) (lines_of (plain_text script)) ≡ map (script_line_of number) (plain_lines script) ++ Ok None ∷ []
 unfolding plain_text
 text_read number script plain = printed_lines number (plain_lines script) plain
 
-pub printed_scripts : (script : ScriptView) → IsScript script → length (plain_text script) ≤ 4194304 → script_of (plain_text script) ≡ Ok script
+pub printed_scripts : (script : ScriptView) → IsScript script → length (plain_text script) ≤ TEXT_LIMIT → script_of (plain_text script) ≡ Ok script
 unfolding script_of
 printed_scripts script is short =
     let number = script.version in
     let small = is.arguments.1 in
     let lines = lines_of (plain_text script) in
-    ap (λ test. cond test (Err (1, LongScript)) (script_in lines)) (not_lt 4194304 (length (plain_text script)) short)
-    ∙ ap (λ v. script_by v (given script_fault 1 [] (script_lines v lines))) (version_back number script.clock script.arguments script.events is.time)
-    ∙ ap (λ read. script_by number (given script_fault 1 [] read)) (text_read number script (all_plain number script.clock script.arguments script.events is.time small is.events_given))
-    ∙ ap (script_by number) (all_given number script.clock script.arguments script.events is.time small is.events_given is.events_few)
+    short_script (version_in lines) (plain_text script) (not_lt TEXT_LIMIT (length (plain_text script)) short)
+    ∙ ap (λ v. script_by v lines) (version_back number script.clock script.arguments script.events is.time)
+    ∙ ap (λ read. made (script_from number) (given (script_fault number) 1 [] read)) (text_read number script (all_plain number script.clock script.arguments script.events is.time small is.events_given))
+    ∙ ap (made (script_from number)) (all_given number script.clock script.arguments script.events is.time small is.events_given is.events_few)
     ∙ ap Ok (same_script number script.clock script.arguments script.events)

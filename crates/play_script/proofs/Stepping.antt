@@ -1,19 +1,27 @@
 -- What is gathered line by line is what the lines give.
-use Rattle.std.proofs.Common.{◌≡◌, ℕ, ◌+◌, Bool, true, false, ◌||◌, ltb, List, [], ◌∷◌, ◌++◌, length, Some, None, Ok, Err, append-nil, refl, sym, ap, ◌∙◌, arith}
-use Rattle.std.specs.Option.{unwrap_or, is_some}
+use Rattle.std.proofs.Common.{◌≡◌, ℕ, ◌+◌, Bool, true, false, ◌||◌, ltb, List, [], ◌∷◌, ◌++◌, length, Some, None, Result, Ok, Err, append-nil, refl, sym, ap, ◌∙◌, arith}
+use Rattle.std.specs.Option.{is_some}
 use Rattle.std.specs.Prelude.{slice_get}
 use Rattle.std.proofs.lemmas.List.{length-append}
 use Rattle.std.proofs.lemmas.List.Concat.{flat_map-append}
+use Rattle.uxn_limits.specs.declared.limits.TheConstants.{TEXT_LIMIT}
 use Rattle.text_lines.specs.Lines.{LinesView, lines_of, words_of}
-use Rattle.text_lines.specs.Reading.{Line, given}
-use Rattle.play_script.specs.declared.script.Event.{Event}
+use Rattle.text_lines.specs.Reading.{Line, given, made, fault_if, each_line}
 use Rattle.play_script.specs.declared.script.LineStop.{LineStop}
 use Rattle.play_script.specs.declared.script.LineStop.TheVariants.{Faulty, NoMemory}
 use Rattle.play_script.specs.declared.script.ScriptKind.{ScriptKind}
+use Rattle.play_script.specs.declared.script.ScriptKind.TheVariants.{Late}
 use Rattle.play_script.specs.declared.script.Version.{Version}
 use Rattle.play_script.specs.Rows.{Meaning, version, clock, arguments, events, script_line_of}
-use Rattle.play_script.specs.Scripts.{clocks_in, arguments_in, events_in, clocks_of, arguments_of, events_of, script_fault, first_or, late_if, script_lines, script_by, script_in, version_in, ReadsScript}
-use Rattle.play_script.specs.Gathered.{GatheredView, gathered, at_line, gathering_fault, grown, finished_script, TakesLine}
+use Rattle.play_script.specs.Scripts.{clocks_in, arguments_in, events_in, clocks_of, arguments_of, events_of, GatheredView, gathered, gathering_fault, finished_script, script_fault, ScriptView, script_from, script_in, version_in, ReadsScript}
+use Rattle.play_script.specs.Gathered.{at_line, grown, TakesLine}
+
+-- the script of lines, and of a text that is short enough
+abbrev pub script_by : Version → List (List ℕ) → Result ScriptView (ℕ × ScriptKind)
+script_by number lines = made (script_from number) (given (script_fault number) 1 [] (each_line (script_line_of number) lines))
+
+pub short_script : (number : Version) (text : List ℕ) → ltb TEXT_LIMIT (length text) ≡ false → script_in number text ≡ script_by number (lines_of text)
+short_script number text short = rw short refl
 
 -- what the lines with one more give
 more_clocks : (before : List Meaning) (m : Meaning) → clocks_of (before ++ m ∷ []) ≡ clocks_of before ++ clocks_in m
@@ -32,7 +40,7 @@ begun_now before m = let size = length-append before (m ∷ []) in grind (arith,
 some_not_none : {A : Type 0} {x : A} → Some x ≡ None → ⊥
 some_not_none e = grind (arith, e)
 
-first_of_empty : {A : Type 0} (xs : List A) (x : A) (some : Bool) → late_if (some || is_some (slice_get xs 0)) ≡ None → slice_get (xs ++ x ∷ []) 0 ≡ Some x
+first_of_empty : {A : Type 0} (xs : List A) (x : A) (some : Bool) → fault_if (some || is_some (slice_get xs 0)) Late ≡ None → slice_get (xs ++ x ∷ []) 0 ≡ Some x
 first_of_empty [] x some none = refl
 first_of_empty (y ∷ ys) x true none = absurd (some_not_none none)
 first_of_empty (y ∷ ys) x false none = absurd (some_not_none none)
@@ -47,33 +55,20 @@ grows number before (arguments texts) none =
 grows number before (events given) none =
     rw (begun_now before (events given), more_clocks before (events given), more_arguments before (events given), more_events before (events given), append-nil (clocks_of before), append-nil (arguments_of before)) refl
 
--- what is wrong with a line is observed in what was gathered
-late_same : {A : Type 0} (given_so_far : List Event) (xs : List A) → late_if (ltb 0 (length given_so_far + length xs)) ≡ late_if (ltb 0 (length given_so_far) || is_some (slice_get xs 0))
-late_same [] [] = refl
-late_same [] (x ∷ xs) = grind arith
-late_same (e ∷ more) xs = grind arith
-
-same_fault : (number : Version) (before : List Meaning) (m : Meaning) → script_fault before m ≡ gathering_fault (gathered number before) m
-same_fault number before version = refl
-same_fault number before (clock time) = late_same (events_of before) (clocks_of before)
-same_fault number before (arguments texts) = late_same (events_of before) (arguments_of before)
-same_fault number before (events given) = refl
-
 -- the lines that are left, after what the lines before them gave
 pub record Standing (text : List ℕ) (lines : LinesView) (so_far : GatheredView) : Type 0 where
   pub before : List Meaning
   pub gathers : so_far ≡ gathered (version_in (lines_of text)) before
-  pub rest : given script_fault (lines.number + 1) before (script_lines (version_in (lines_of text)) lines.left) ≡ given script_fault 1 [] (script_lines (version_in (lines_of text)) (lines_of text))
+  pub rest : given (script_fault (version_in (lines_of text))) (lines.number + 1) before (each_line (script_line_of (version_in (lines_of text))) lines.left) ≡ given (script_fault (version_in (lines_of text))) 1 [] (each_line (script_line_of (version_in (lines_of text))) (lines_of text))
   pub within : lines.size ≡ length text
 
 -- a line is taken
 taken : (number : Version) (at : ℕ) (before : List Meaning) (line : Line Meaning ScriptKind) (left : List (Line Meaning ScriptKind)) (answer : Unit {0}) (after : GatheredView)
     → TakesLine (gathered number before) line (Ok answer) after
-    → (next : List Meaning) × (after ≡ gathered number next) × (given script_fault at before (line ∷ left) ≡ given script_fault (at + 1) next left)
+    → (next : List Meaning) × (after ≡ gathered number next) × (given (script_fault number) at before (line ∷ left) ≡ given (script_fault number) (at + 1) next left)
 taken number at before (Ok None) left answer after takes = (before, takes, refl)
 taken number at before (Ok (Some m)) left answer after takes =
-    let fine = same_fault number before m ∙ takes.0 in
-    (before ++ m ∷ [], takes.1 ∙ sym (grows number before m takes.0), rw fine refl)
+    (before ++ m ∷ [], takes.1 ∙ sym (grows number before m takes.0), rw takes.0 refl)
 taken number at before (Err kind) left answer after takes = absurd takes
 
 pub go_on : (text line : List ℕ) (lines next : LinesView) (so_far after : GatheredView) (answer : Unit {0}) → Standing text lines so_far → lines.left ≡ line ∷ next.left
@@ -81,30 +76,26 @@ pub go_on : (text line : List ℕ) (lines next : LinesView) (so_far after : Gath
 go_on text line lines next so_far after answer standing cut counted size takes =
     let number = version_in (lines_of text) in
     let here = rw standing.gathers at takes in
-    let found = taken number (lines.number + 1) standing.before (script_line_of number (words_of line)) (script_lines number next.left) answer after here in
+    let found = taken number (lines.number + 1) standing.before (script_line_of number (words_of line)) (each_line (script_line_of number) next.left) answer after here in
     record {
       before = found.0;
       gathers = found.1;
-      rest = ap (λ at. given script_fault (at + 1) found.0 (script_lines number next.left)) counted ∙ sym found.2
-          ∙ ap (λ left. given script_fault (lines.number + 1) standing.before (script_lines number left)) (sym cut) ∙ standing.rest;
+      rest = ap (λ at. given (script_fault number) (at + 1) found.0 (each_line (script_line_of number) next.left)) counted ∙ sym found.2
+          ∙ ap (λ left. given (script_fault number) (lines.number + 1) standing.before (each_line (script_line_of number) left)) (sym cut) ∙ standing.rest;
       within = size ∙ standing.within;
     }
 
 -- a line is refused
 refused : (number : Version) (at : ℕ) (before : List Meaning) (line : Line Meaning ScriptKind) (left : List (Line Meaning ScriptKind)) (stop : LineStop) (after : GatheredView)
-    → TakesLine (gathered number before) line (Err stop) after → ReadsScript (Err (at_line at stop)) (script_by number (given script_fault at before (line ∷ left)))
+    → TakesLine (gathered number before) line (Err stop) after → ReadsScript (Err (at_line at stop)) (made (script_from number) (given (script_fault number) at before (line ∷ left)))
 refused number at before line left NoMemory after takes = tt
 refused number at before (Ok None) left (Faulty kind) after takes = absurd takes
-refused number at before (Ok (Some m)) left (Faulty kind) after takes = rw (same_fault number before m ∙ takes) refl
+refused number at before (Ok (Some m)) left (Faulty kind) after takes = rw takes refl
 refused number at before (Err found) left (Faulty kind) after takes = rw takes refl
 
 -- all lines are taken
-first_same : {A : Type 0} (other : A) (xs : List A) → unwrap_or (slice_get xs 0) other ≡ first_or other xs
-first_same other [] = refl
-first_same other (x ∷ xs) = refl
-
-pub all_taken : (text : List ℕ) (lines : LinesView) (so_far : GatheredView) → Standing text lines so_far → lines.left ≡ [] → script_in (lines_of text) ≡ Ok (finished_script so_far)
+pub all_taken : (text : List ℕ) (lines : LinesView) (so_far : GatheredView) → Standing text lines so_far → lines.left ≡ [] → script_by (version_in (lines_of text)) (lines_of text) ≡ Ok (finished_script so_far)
 all_taken text lines so_far standing none =
     let number = version_in (lines_of text) in
-    let all = ap (λ left. given script_fault (lines.number + 1) standing.before (script_lines number left)) (sym none) ∙ standing.rest in
-    ap (script_by number) (sym all) ∙ ap Ok (sym (rw (standing.gathers, first_same _ (clocks_of standing.before), first_same [] (arguments_of standing.before)) refl))
+    let all = ap (λ left. given (script_fault number) (lines.number + 1) standing.before (each_line (script_line_of number) left)) (sym none) ∙ standing.rest in
+    ap (made (script_from number)) (sym all) ∙ ap Ok (sym (rw standing.gathers refl))

@@ -6,23 +6,25 @@ use Rattle.std.specs.Option.{option_map, ok_or, IfSome}
 use Rattle.std.specs.Str.{bytes_eq}
 use Rattle.std.proofs.lemmas.List.Elements.{All-from_get_or}
 use Rattle.std.proofs.lemmas.List.Splits.{slice_split_at}
+use Rattle.uxn_limits.specs.declared.limits.TheConstants.{TEXT_LIMIT}
 use Rattle.text_lines.specs.declared.row.Counts.{Counts}
 use Rattle.text_lines.specs.declared.row.Counts.TheVariants.{Exactly, Between}
 use Rattle.text_lines.specs.declared.row.LineFault.{LineFault}
 use Rattle.text_lines.specs.declared.row.LineFault.TheVariants.{Missing, Extra}
 use Rattle.text_lines.specs.Lines.{is_newline, lines_of, words_of}
 use Rattle.text_lines.specs.Numbers.{begins_with}
-use Rattle.text_lines.specs.Reading.{Line, given}
-use Rattle.text_lines.specs.Rows.{keyword_row, are_too_few, are_too_many, counted}
+use Rattle.text_lines.specs.Reading.{Line, given, made, each_line}
+use Rattle.text_lines.specs.Rows.{keyword_row, are_too_few, are_too_many, counted, keyword_of, line_by}
 use Rattle.play_script.specs.declared.keyword.Keyword.{Keyword}
 use Rattle.play_script.specs.declared.keyword.Keyword.TheVariants as word
 use Rattle.play_script.specs.declared.script.ScriptKind.{ScriptKind}
-use Rattle.play_script.specs.declared.script.ScriptKind.TheVariants.{BadValue, LongScript}
+use Rattle.play_script.specs.declared.script.ScriptKind.TheVariants.{BadValue}
 use Rattle.play_script.specs.declared.script.Version.{Version}
 use Rattle.play_script.specs.declared.script.Version.TheVariants.{First, Second}
-use Rattle.play_script.specs.Rows.{Meaning, version, clock, arguments, events, script_meaning_of, events_of_line, device_of, version_of, clock_of_values, keys_of, buttons_of, script_meaning_by, script_as_line, script_line_of, rows_of, first_rows, second_rows}
-use Rattle.play_script.specs.Scripts.{ScriptView, script_fault, script_lines, script_by, script_from, script_in, script_of, version_in}
+use Rattle.play_script.specs.Rows.{Meaning, version, clock, arguments, events, script_meaning_of, events_of_line, device_of, version_of, clock_of_values, keys_of, buttons_of, script_kind_of, script_line_of, rows_of, first_rows, second_rows}
+use Rattle.play_script.specs.Scripts.{ScriptView, script_fault, script_from, script_of, version_in}
 use Rattle.play_script.specs.Values.{texts_of_values}
+use Rattle.play_script.proofs.Stepping.{script_by, short_script}
 
 -- what is found in a table
 found_at : {A : Type 0} (P : A → Type 0) (test : A → Bool) (x : A) (later : Option A) (b : Bool) → test x ≡ b → P x → IfSome later (λ y. P y × (test y ≡ true))
@@ -38,30 +40,36 @@ found_holds P test (x ∷ xs) all = found_at P test x (find test xs) (test x) re
 abbrev Row : Type 0
 Row = List ℕ × Counts × Keyword
 
+abbrev meant : Version → Line (Keyword × List (List ℕ)) LineFault → Line Meaning ScriptKind
+meant number said = line_by script_kind_of (λ keyword values. ok_or (script_meaning_of keyword number values) BadValue) said
+
+abbrev said_by : Result Keyword LineFault → List (List ℕ) → Line (Keyword × List (List ℕ)) LineFault
+said_by answer values = made (λ keyword. Some (keyword, values)) answer
+
 abbrev reads : Version → Option Row → List (List ℕ) → Line Meaning ScriptKind
-reads number found values = script_as_line (script_meaning_by number (counted found (length values)) values)
+reads number found values = meant number (said_by (counted found (length values)) values)
 
 record Carries (row : Row) : Type 0 where
   same : (values : List (List ℕ)) (m : Option Meaning) → reads First (Some row) values ≡ Ok m → reads Second (keyword_row second_rows row.0) values ≡ Ok m
 
 same_answer : (few many : Bool) (keyword : Keyword) (values : List (List ℕ)) → script_meaning_of keyword First values ≡ script_meaning_of keyword Second values
-    → script_meaning_by First (cond few (Err Missing) (cond many (Err Extra) (Ok keyword))) values ≡ script_meaning_by Second (cond few (Err Missing) (cond many (Err Extra) (Ok keyword))) values
-same_answer true many keyword values made = refl
-same_answer false true keyword values made = refl
-same_answer false false keyword values made = ap (λ m. ok_or m BadValue) made
+    → meant First (said_by (cond few (Err Missing) (cond many (Err Extra) (Ok keyword))) values) ≡ meant Second (said_by (cond few (Err Missing) (cond many (Err Extra) (Ok keyword))) values)
+same_answer true many keyword values same = refl
+same_answer false true keyword values same = refl
+same_answer false false keyword values same = ap (λ m. made Some (ok_or m BadValue)) same
 
 same_row : (row : Row) → keyword_row second_rows row.0 ≡ Some row → ((values : List (List ℕ)) → script_meaning_of row.2 First values ≡ script_meaning_of row.2 Second values) → Carries row
-same_row row found made = record {
+same_row row found equal = record {
   same = λ values m is.
-      rw found (ap script_as_line (sym (same_answer (are_too_few row.1 (length values)) (are_too_many row.1 (length values)) row.2 values (made values))) ∙ is);
+      rw found (sym (same_answer (are_too_few row.1 (length values)) (are_too_many row.1 (length values)) row.2 values (equal values)) ∙ is);
 }
 
 wide_line : (name : List ℕ) (keyword : Keyword) → keyword_row second_rows name ≡ Some (name, Between 1 2, keyword)
     → ((b : List ℕ) → script_meaning_of keyword First (b ∷ []) ≡ script_meaning_of keyword Second (b ∷ [])) → (values : List (List ℕ)) (m : Option Meaning)
     → reads First (Some (name, Exactly 1, keyword)) values ≡ Ok m → reads Second (keyword_row second_rows name) values ≡ Ok m
-wide_line name keyword found made [] m is = absurd (grind (arith, is))
-wide_line name keyword found made (b ∷ []) m is = rw found (ap (λ given. script_as_line (ok_or given BadValue)) (sym (made b)) ∙ is)
-wide_line name keyword found made (b ∷ c ∷ more) m is =
+wide_line name keyword found equal [] m is = absurd (grind (arith, is))
+wide_line name keyword found equal (b ∷ []) m is = rw found (ap (λ m. made Some (ok_or m BadValue)) (sym (equal b)) ∙ is)
+wide_line name keyword found equal (b ∷ c ∷ more) m is =
     let enough : ltb (length (b ∷ c ∷ more)) 1 ≡ false = grind arith in
     let over : ltb 1 (length (b ∷ c ∷ more)) ≡ true = grind arith in
     let no = rw (enough, over) at is in
@@ -69,7 +77,7 @@ wide_line name keyword found made (b ∷ c ∷ more) m is =
 
 wide_row : (name : List ℕ) (keyword : Keyword) → keyword_row second_rows name ≡ Some (name, Between 1 2, keyword)
     → ((b : List ℕ) → script_meaning_of keyword First (b ∷ []) ≡ script_meaning_of keyword Second (b ∷ [])) → Carries (name, Exactly 1, keyword)
-wide_row name keyword found made = record { same = wide_line name keyword found made }
+wide_row name keyword found equal = record { same = wide_line name keyword found equal }
 
 all_carry : AllByRecursion Carries first_rows
 unfolding keyword_row script_meaning_of events_of_line device_of keys_of buttons_of
@@ -95,11 +103,11 @@ none_made keyword values = none_by events (events_of_line keyword First values) 
 abbrev Gives : Line Meaning ScriptKind → Option Meaning → Type 0
 Gives line m = line ≡ Ok m
 
-none_ok : (made : Option Meaning) (m : Option Meaning) → IfSome made IsNoVersion → Gives (script_as_line (ok_or made BadValue)) m → IfSome m IsNoVersion
+none_ok : (found : Option Meaning) (m : Option Meaning) → IfSome found IsNoVersion → Gives (made Some (ok_or found BadValue)) m → IfSome m IsNoVersion
 none_ok None m none is = absurd (grind (arith, is))
-none_ok (Some made) m none is = let same : m ≡ Some made = grind (arith, is) in rw same none
+none_ok (Some found) m none is = let same : m ≡ Some found = grind (arith, is) in rw same none
 
-none_read : (answer : Result Keyword LineFault) (values : List (List ℕ)) (m : Option Meaning) → Gives (script_as_line (script_meaning_by First answer values)) m → IfSome m IsNoVersion
+none_read : (answer : Result Keyword LineFault) (values : List (List ℕ)) (m : Option Meaning) → Gives (meant First (said_by answer values)) m → IfSome m IsNoVersion
 none_read (Ok keyword) values m is = none_ok (script_meaning_of keyword First values) m (none_made keyword values) is
 none_read (Err fault) values m is = absurd (grind (arith, is))
 
@@ -114,8 +122,9 @@ lift_row : (name : List ℕ) (values : List (List ℕ)) (m : Option Meaning) (fo
 lift_row name values m None holds is = absurd (grind (arith, is))
 lift_row name values m (Some row) holds is = rw (same_text name row.0 holds.1) (holds.0.same values m is)
 
-lift_if : (test : Bool) (name : List ℕ) (values : List (List ℕ)) (m : Option Meaning) → Gives (cond test (Ok None) (reads First (keyword_row first_rows name) values)) m
-    → (Gives (cond test (Ok None) (reads Second (keyword_row second_rows name) values)) m) × IfSome m IsNoVersion
+lift_if : (test : Bool) (name : List ℕ) (values : List (List ℕ)) (m : Option Meaning)
+    → Gives (meant First (cond test (Ok None) (said_by (counted (keyword_row first_rows name) (length values)) values))) m
+    → (Gives (meant Second (cond test (Ok None) (said_by (counted (keyword_row second_rows name) (length values)) values))) m) × IfSome m IsNoVersion
 unfolding keyword_row
 lift_if true name values m is = (is, let same : m ≡ None = grind (arith, is) in rw same tt)
 lift_if false name values m is = (
@@ -124,33 +133,33 @@ lift_if false name values m is = (
 )
 
 pub lift : (words : List (List ℕ)) (m : Option Meaning) → Gives (script_line_of First words) m → Lifts Second words m
-unfolding script_line_of rows_of
+unfolding script_line_of keyword_of rows_of
 lift [] m is = (is, let same : m ≡ None = grind (arith, is) in rw same tt)
 lift (name ∷ values) m is = lift_if (begins_with 35 name) name values m is
 
 -- lines that version 1 reads, behind a line that tells version 2
 abbrev Carried : List (List ℕ) → Type 0
-Carried lines = (n k : ℕ) (before all : List Meaning) → given script_fault n before (script_lines First lines) ≡ Ok all → given script_fault k (version ∷ before) (script_lines Second lines) ≡ Ok (version ∷ all)
+Carried lines = (n k : ℕ) (before all : List Meaning) → given (script_fault First) n before (each_line (script_line_of First) lines) ≡ Ok all → given (script_fault Second) k (version ∷ before) (each_line (script_line_of Second) lines) ≡ Ok (version ∷ all)
 
-same_behind : (before : List Meaning) (m : Meaning) → IsNoVersion m → script_fault (version ∷ before) m ≡ script_fault before m
+same_behind : (before : List Meaning) (m : Meaning) → IsNoVersion m → script_fault Second (version ∷ before) m ≡ script_fault First before m
 same_behind before version other = absurd other
 same_behind before (clock time) other = refl
 same_behind before (arguments texts) other = refl
 same_behind before (events more) other = refl
 
-carry_fault : (lines : List (List ℕ)) (n k : ℕ) (before all : List Meaning) (m : Meaning) (fault : Option ScriptKind) → script_fault before m ≡ fault → IsNoVersion m → Carried lines
-    → given script_fault n before (Ok (Some m) ∷ script_lines First lines) ≡ Ok all → given script_fault k (version ∷ before) (Ok (Some m) ∷ script_lines Second lines) ≡ Ok (version ∷ all)
+carry_fault : (lines : List (List ℕ)) (n k : ℕ) (before all : List Meaning) (m : Meaning) (fault : Option ScriptKind) → script_fault First before m ≡ fault → IsNoVersion m → Carried lines
+    → given (script_fault First) n before (Ok (Some m) ∷ each_line (script_line_of First) lines) ≡ Ok all → given (script_fault Second) k (version ∷ before) (Ok (Some m) ∷ each_line (script_line_of Second) lines) ≡ Ok (version ∷ all)
 carry_fault lines n k before all m None is other rest fine =
     rw (same_behind before m other, is) (rest (n + 1) (k + 1) (before ++ m ∷ []) all (rw is at fine))
 carry_fault lines n k before all m (Some kind) is other rest fine = absurd (let wrong = rw is at fine in grind (arith, wrong))
 
 carry_line : (lines : List (List ℕ)) (words : List (List ℕ)) (read : Line Meaning ScriptKind) → script_line_of First words ≡ read → Carried lines → (n k : ℕ) (before all : List Meaning)
-    → given script_fault n before (read ∷ script_lines First lines) ≡ Ok all → given script_fault k (version ∷ before) (script_line_of Second words ∷ script_lines Second lines) ≡ Ok (version ∷ all)
+    → given (script_fault First) n before (read ∷ each_line (script_line_of First) lines) ≡ Ok all → given (script_fault Second) k (version ∷ before) (script_line_of Second words ∷ each_line (script_line_of Second) lines) ≡ Ok (version ∷ all)
 carry_line lines words (Err kind) is rest n k before all fine = absurd (grind (arith, fine))
 carry_line lines words (Ok None) is rest n k before all fine = rw (lift words None is).0 (rest (n + 1) (k + 1) before all fine)
 carry_line lines words (Ok (Some m)) is rest n k before all fine =
     let lifted = lift words (Some m) is in
-    rw lifted.0 (carry_fault lines n k before all m (script_fault before m) refl lifted.1 rest fine)
+    rw lifted.0 (carry_fault lines n k before all m (script_fault First before m) refl lifted.1 rest fine)
 
 carried : (lines : List (List ℕ)) → Carried lines
 carried [] = λ n k before all fine. let same : before ≡ all = grind (arith, fine) in rw same refl
@@ -158,44 +167,44 @@ carried (line ∷ lines) = carry_line lines (words_of line) (script_line_of Firs
 
 -- the first line, which tells version 2
 first_line : script_line_of Second (words_of (codes "script 2")) ≡ Ok (Some version)
-unfolding script_line_of rows_of keyword_row script_meaning_of version_of words_of
+unfolding script_line_of keyword_of rows_of keyword_row script_meaning_of version_of words_of
 first_line = refl
 
 tells : (lines : List (List ℕ)) → version_in (codes "script 2" ∷ lines) ≡ Second
 unfolding words_of
 tells lines = refl
 
-read_is : (number : Version) (answer : Result (List Meaning) (ℕ × ScriptKind)) (script : ScriptView) → script_by number answer ≡ Ok script
+read_is : (number : Version) (answer : Result (List Meaning) (ℕ × ScriptKind)) (script : ScriptView) → made (script_from number) answer ≡ Ok script
     → (all : List Meaning) × (answer ≡ Ok all) × (script ≡ script_from number all)
 read_is number (Ok all) script is = (all, refl, grind (arith, is))
 read_is number (Err fault) script is = absurd (grind (arith, is))
 
 behind_first : (lines : List (List ℕ)) (number : Version) → number ≡ Second
-    → script_by number (given script_fault 1 [] (script_lines number (codes "script 2" ∷ lines))) ≡ script_by Second (given script_fault 2 (version ∷ []) (script_lines Second lines))
+    → script_by number (codes "script 2" ∷ lines) ≡ made (script_from Second) (given (script_fault Second) 2 (version ∷ []) (each_line (script_line_of Second) lines))
 behind_first lines First is = absurd (grind (arith, is))
 behind_first lines Second is = rw first_line refl
 
-with_version : (lines : List (List ℕ)) (number : Version) (script : ScriptView) → number ≡ First → script_by number (given script_fault 1 [] (script_lines number lines)) ≡ Ok script
-    → script_in (codes "script 2" ∷ lines) ≡ Ok (record script { version = Second })
+with_version : (lines : List (List ℕ)) (number : Version) (script : ScriptView) → number ≡ First → script_by number lines ≡ Ok script
+    → script_by (version_in (codes "script 2" ∷ lines)) (codes "script 2" ∷ lines) ≡ Ok (record script { version = Second })
 with_version lines Second script first is = absurd (grind (arith, first))
 with_version lines First script first is =
-    let found = read_is First (given script_fault 1 [] (script_lines First lines)) script is in
-    behind_first lines (version_in (codes "script 2" ∷ lines)) (tells lines) ∙ ap (script_by Second) (carried lines 1 2 [] found.0 found.1) ∙ ap {A = ScriptView} (λ read. Ok (record read { version = Second })) (sym found.2)
+    let found = read_is First (given (script_fault First) 1 [] (each_line (script_line_of First) lines)) script is in
+    behind_first lines (version_in (codes "script 2" ∷ lines)) (tells lines) ∙ ap (made (script_from Second)) (carried lines 1 2 [] found.0 found.1) ∙ ap {A = ScriptView} (λ read. Ok (record read { version = Second })) (sym found.2)
 
-version_is : (number : Version) (answer : Result (List Meaning) (ℕ × ScriptKind)) (script : ScriptView) → script_by number answer ≡ Ok script → number ≡ script.version
+version_is : (number : Version) (answer : Result (List Meaning) (ℕ × ScriptKind)) (script : ScriptView) → made (script_from number) answer ≡ Ok script → number ≡ script.version
 version_is number answer script is = let found = read_is number answer script is in rw found.2 refl
 
 no_newline : (i : ℕ) → i < 8 → All (λ byte. is_newline byte ≡ false) (codes "script 2")
 no_newline i small = All-from_get_or (λ byte. is_newline byte ≡ false) (codes "script 2") 0 (λ i within. search (rules, tests))
 
-pub second_reads_first : (text : List ℕ) (script : ScriptView) → length text ≤ 4194295 → script_of text ≡ Ok script → script.version ≡ First
+pub second_reads_first : (text : List ℕ) (script : ScriptView) → length text + 9 ≤ TEXT_LIMIT → script_of text ≡ Ok script → script.version ≡ First
     → script_of (codes "script 2" ++ 10 ∷ text) ≡ Ok (record script { version = Second })
 unfolding script_of
 second_reads_first text script short is first =
-    let fits : ltb 4194304 (length text) ≡ false = grind arith in
-    let all : ltb 4194304 (length (codes "script 2" ++ 10 ∷ text)) ≡ false = grind arith in
+    let fits : ltb TEXT_LIMIT (length text) ≡ false = grind arith in
+    let all : ltb TEXT_LIMIT (length (codes "script 2" ++ 10 ∷ text)) ≡ false = grind arith in
     let lines = rw fits at is in
     let cut : lines_of (codes "script 2" ++ 10 ∷ text) ≡ codes "script 2" ∷ lines_of text = slice_split_at is_newline (codes "script 2") 10 text (no_newline 0 (omega arith)) refl in
-    ap (λ test. cond test (Err (1, LongScript)) (script_in (lines_of (codes "script 2" ++ 10 ∷ text)))) all
-    ∙ ap script_in cut
+    short_script (version_in (lines_of (codes "script 2" ++ 10 ∷ text))) (codes "script 2" ++ 10 ∷ text) all
+    ∙ ap (λ lines. script_by (version_in lines) lines) cut
     ∙ with_version (lines_of text) (version_in (lines_of text)) script (version_is (version_in (lines_of text)) _ script lines ∙ first) lines

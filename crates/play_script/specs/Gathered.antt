@@ -1,14 +1,14 @@
 -- What the lines read so far gave, and what one more line changes.
-use Rattle.std.specs.Prelude.{◌≡◌, ◌+◌, ◌≤◌, Bool, true, ◌||◌, nat_lt, if◌then◌else◌, ℕ, pos, List, [], ◌++◌}
-use Rattle.std.specs.Prelude.{length, Option, Some, None, is_some, Result, Ok, Err, slice_get, replicate, option_map}
+use Rattle.std.specs.Prelude.{◌≡◌, ◌≤◌, Bool, true, ℕ, List, ◌++◌}
+use Rattle.std.specs.Prelude.{length, Option, Some, None, Result, Ok, Err, replicate, option_map}
 use Rattle.std.specs.List.{All}
-use Rattle.std.specs.Option.{unwrap_or, IfSome}
+use Rattle.std.specs.Option.{IfSome}
+use Rattle.uxn_limits.specs.declared.limits.TheConstants.{TEXT_LIMIT, MOST_EVENTS}
 use Rattle.text_lines.specs.Reading.{Line}
 use Rattle.play_script.specs.declared.script.Clock.{Clock}
 use Rattle.play_script.specs.declared.script.Event.{Event}
 use Rattle.play_script.specs.declared.script.Version.{Version}
 use Rattle.play_script.specs.declared.script.ScriptKind.{ScriptKind}
-use Rattle.play_script.specs.declared.script.ScriptKind.TheVariants.{ManyEvents}
 use Rattle.play_script.specs.declared.script.LineStop.{LineStop}
 use Rattle.play_script.specs.declared.script.LineStop.TheVariants.{Faulty, NoMemory}
 use Rattle.play_script.specs.declared.script.ScriptStop.{ScriptStop}
@@ -18,7 +18,7 @@ use Rattle.play_script.specs.declared.line.Meaning.TheVariants.{VersionLine, Clo
 use Rattle.play_script.specs.Held.{bytes_in}
 use Rattle.play_script.specs.Limits.{AreTexts, IsEvent, IsTime}
 use Rattle.play_script.specs.Rows.{Meaning, version, clock, arguments, events, inputs_of}
-use Rattle.play_script.specs.Scripts.{ScriptView, clocks_of, arguments_of, events_of, late_if}
+use Rattle.play_script.specs.Scripts.{GatheredView, gathering_fault}
 
 -- what a meaning represents
 abbrev pub shown : Read → Meaning
@@ -42,44 +42,21 @@ IsScriptRead number size (Arguments texts) = AreTexts size (bytes_in texts.items
 IsScriptRead number size (Inputs texts) = AreTexts size (bytes_in texts.items)
 IsScriptRead number size (Times given count) = IsEvent number given
 
--- what the lines so far gave
-pub record GatheredView : Type 0 where
-  pub version : Version
-  pub begun : Bool
-  pub clock : Option Clock
-  pub arguments : Option (List (List ℕ))
-  pub events : List Event
-
+-- what the lines so far gave, by its parts
 abbrev pub so_far : Version → Bool → Option Clock → Option (List (List ℕ)) → List Event → GatheredView
 so_far number any time texts given = record { version = number; begun = any; clock = time; arguments = texts; events = given }
-
-abbrev pub gathered : Version → List Meaning → GatheredView
-gathered number lines = record {
-  version = number;
-  begun = nat_lt 0 (length lines);
-  clock = slice_get (clocks_of lines) 0;
-  arguments = slice_get (arguments_of lines) 0;
-  events = events_of lines;
-}
 
 -- what the limits of scripts say of it
 pub record IsGatheredScript (all : GatheredView) : Type 0 where
   pub time : IfSome all.clock IsTime
-  pub texts : IfSome all.arguments (AreTexts 4194304)
-  pub few : length all.events ≤ 1000000
+  pub texts : IfSome all.arguments (AreTexts TEXT_LIMIT)
+  pub few : length all.events ≤ MOST_EVENTS
   pub given : All (IsEvent all.version) all.events
 
 -- what stops a script whose line stops
 abbrev pub at_line : ℕ → LineStop → ScriptStop
 at_line line (Faulty kind) = Refused line kind
 at_line line NoMemory = OutOfMemory
-
--- what is wrong with a line behind these
-abbrev pub gathering_fault : GatheredView → Meaning → Option ScriptKind
-gathering_fault before version = late_if before.begun
-gathering_fault before (clock time) = late_if (nat_lt 0 (length before.events) || is_some before.clock)
-gathering_fault before (arguments texts) = late_if (nat_lt 0 (length before.events) || is_some before.arguments)
-gathering_fault before (events given) = if nat_lt 1000000 (length before.events + length given) then Some ManyEvents else None
 
 -- what the lines gave with one more
 abbrev pub grown : GatheredView → Meaning → GatheredView
@@ -102,12 +79,3 @@ TakesLine before (Ok None) (Err NoMemory) after = Unit {0}
 TakesLine before (Err kind) (Ok _) after = ⊥
 TakesLine before (Err kind) (Err (Faulty found)) after = found ≡ kind
 TakesLine before (Err kind) (Err NoMemory) after = Unit {0}
-
--- the script of all lines
-abbrev pub finished_script : GatheredView → ScriptView
-finished_script all = record {
-  version = all.version;
-  clock = unwrap_or all.clock (record { seconds = pos 0; offset = pos 0 });
-  arguments = unwrap_or all.arguments [];
-  events = all.events;
-}

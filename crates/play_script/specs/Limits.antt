@@ -2,6 +2,7 @@
 use Rattle.std.specs.Prelude.{ℕ, ◌+◌, ◌<◌, ◌≤◌, ◌≡◌, ◌==◌, Bool, true, pos, neg_ℤ, ◌≤ℤ◌}
 use Rattle.std.specs.Prelude.{[], ◌∷◌, length, List}
 use Rattle.std.specs.List.{All, AllByRecursion, list_all, list_any, sum_by}
+use Rattle.uxn_limits.specs.declared.limits.TheConstants.{TEXT_LIMIT, MOST_EVENTS, LAST_SECOND, LAST_OFFSET}
 use Rattle.input_ports.specs.declared.Input.TheVariants.{DownOf, UpOf}
 use Rattle.play_script.specs.declared.script.Clock.{Clock}
 use Rattle.play_script.specs.declared.script.Event.{Event}
@@ -32,8 +33,8 @@ IsValue (MouseButton mask) = IsBit mask
 IsValue (Player number) = (2 ≤ number) × (number ≤ 4)
 IsValue (Pixel at) = at < 65536
 IsValue (Turn steps) = (neg_ℤ (pos 32768) ≤ℤ steps) × (steps ≤ℤ pos 32767)
-IsValue (Seconds seconds) = (pos 0 ≤ℤ seconds) × (seconds ≤ℤ pos 253370000000)
-IsValue (Minutes minutes) = (neg_ℤ (pos 840) ≤ℤ minutes) × (minutes ≤ℤ pos 840)
+IsValue (Seconds seconds) = (pos 0 ≤ℤ seconds) × (seconds ≤ℤ pos LAST_SECOND)
+IsValue (Minutes minutes) = (neg_ℤ (pos LAST_OFFSET) ≤ℤ minutes) × (minutes ≤ℤ pos LAST_OFFSET)
 
 abbrev pub AreValues : List Value → Type 0
 AreValues values = AllByRecursion IsValue values
@@ -60,9 +61,9 @@ pub record IsEvent (number : Version) (event : Event) : Type 0 where
 -- seconds and minutes of a clock
 pub record IsTime (time : Clock) : Type 0 where
   pub seconds_from : pos 0 ≤ℤ time.seconds
-  pub seconds_to : time.seconds ≤ℤ pos 253370000000
-  pub offset_from : neg_ℤ (pos 840) ≤ℤ time.offset
-  pub offset_to : time.offset ≤ℤ pos 840
+  pub seconds_to : time.seconds ≤ℤ pos LAST_SECOND
+  pub offset_from : neg_ℤ (pos LAST_OFFSET) ≤ℤ time.offset
+  pub offset_to : time.offset ≤ℤ pos LAST_OFFSET
 
 -- arguments of bytes, with one more for each, and no more than this in all
 abbrev pub AreTexts : ℕ → List (List ℕ) → Type 0
@@ -71,6 +72,6 @@ AreTexts most texts = (sum_by (λ text. length text + 1) texts ≤ most) × All 
 -- the limits of scripts
 pub record IsScript (script : ScriptView) : Type 0 where
   pub time : IsTime script.clock
-  pub events_few : length script.events ≤ 1000000
+  pub events_few : length script.events ≤ MOST_EVENTS
   pub events_given : All (IsEvent script.version) script.events
-  pub arguments : AreTexts 4194304 script.arguments
+  pub arguments : AreTexts TEXT_LIMIT script.arguments

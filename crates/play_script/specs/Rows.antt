@@ -1,15 +1,15 @@
 -- What a line of a script means (profile), a row for each first word.
-use Rattle.std.specs.Prelude.{ℕ, ◌==◌, if◌then◌else◌, pos, List, [], ◌∷◌, codes, replicate, map, length, Option, Some, None}
-use Rattle.std.specs.Prelude.{option_map, Result, Ok, Err}
+use Rattle.std.specs.Prelude.{ℕ, ◌==◌, if◌then◌else◌, pos, List, [], ◌∷◌, codes, replicate, map, Option, Some, None, option_map}
 use Rattle.std.specs.List.{flat_map}
-use Rattle.std.specs.Option.{ok_or}
+use Rattle.std.specs.Option.{ok_or, option_zip}
 use Rattle.std.specs.Str.{bytes_eq}
+use Rattle.uxn_limits.specs.declared.limits.TheConstants.{MOST_TIMES, LAST_SECOND, LAST_OFFSET}
 use Rattle.text_lines.specs.declared.row.Counts.TheVariants.{Exactly, Between, AtLeast}
 use Rattle.text_lines.specs.declared.row.LineFault.{LineFault}
 use Rattle.text_lines.specs.declared.row.LineFault.TheVariants as line
-use Rattle.text_lines.specs.Numbers.{begins_with, byte_of, integer_within, number_within}
+use Rattle.text_lines.specs.Numbers.{byte_of, integer_within, number_within}
 use Rattle.text_lines.specs.Reading.{Line}
-use Rattle.text_lines.specs.Rows.{Rows, keyword_row, counted}
+use Rattle.text_lines.specs.Rows.{Rows, keyword_of, line_by}
 use Rattle.input_ports.specs.declared.Input.{Input as DeviceInput}
 use Rattle.input_ports.specs.declared.Input.TheVariants.{Key, Down, Up, Mouse, Press, Release, Scroll, DownOf, UpOf}
 use Rattle.play_script.specs.declared.script.Clock.{Clock}
@@ -21,7 +21,7 @@ use Rattle.play_script.specs.declared.script.Version.{Version}
 use Rattle.play_script.specs.declared.script.Version.TheVariants.{First, Second}
 use Rattle.play_script.specs.declared.keyword.Keyword.{Keyword}
 use Rattle.play_script.specs.declared.keyword.Keyword.TheVariants as word
-use Rattle.play_script.specs.Values.{texts_of_values, both_values, bit_in, buttons, mouse_buttons, one_or}
+use Rattle.play_script.specs.Values.{texts_of_values, bit_in, buttons, mouse_buttons, one_or}
 
 -- what a line means
 pub data Meaning : Type 0 where
@@ -56,33 +56,34 @@ version_of Second [] = None
 version_of Second (n ∷ more) = if bytes_eq n (codes "2") then Some version else None
 
 unfoldable pub clock_of_values : List (List ℕ) → Option Clock
-clock_of_values (s ∷ m ∷ more) = both_values (λ seconds offset. record { seconds = pos seconds; offset = offset })
-    (number_within 0 253370000000 s) (integer_within 840 840 m)
+clock_of_values (s ∷ m ∷ more) = option_map (λ both. record { seconds = pos both.0; offset = both.1 })
+    (option_zip (number_within 0 LAST_SECOND s) (integer_within LAST_OFFSET LAST_OFFSET m))
 clock_of_values _ = None
 
 unfoldable pub keys_of : Version → List (List ℕ) → Option (List Event)
 keys_of number [] = None
-keys_of number (b ∷ more) = both_values (λ byte count. replicate count (Device (Key byte))) (byte_of b) (one_or 1000000 (further number more))
+keys_of number (b ∷ more) =
+    option_map (λ both. replicate both.1 (Device (Key both.0))) (option_zip (byte_of b) (one_or MOST_TIMES (further number more)))
 
 unfoldable pub expect_of : Version → List (List ℕ) → Option (List Event)
-expect_of Second (p ∷ b ∷ more) = both_values (λ port byte. Expect port byte ∷ []) (byte_of p) (byte_of b)
+expect_of Second (p ∷ b ∷ more) = option_map (λ both. Expect both.0 both.1 ∷ []) (option_zip (byte_of p) (byte_of b))
 expect_of _ _ = None
 
 -- what values make of a player's buttons, of the mouse's buttons, of numbers of columns and rows, and of a wheel's ways
 unfoldable pub buttons_of : (ℕ → ℕ → DeviceInput) → Version → List (List ℕ) → Option DeviceInput
 buttons_of input number [] = None
-buttons_of input number (b ∷ more) = both_values input (bit_in buttons b) (one_or 4 (further number more))
+buttons_of input number (b ∷ more) = option_map (λ both. input both.0 both.1) (option_zip (bit_in buttons b) (one_or 4 (further number more)))
 
 unfoldable pub mouse_buttons_of : (ℕ → DeviceInput) → List (List ℕ) → Option DeviceInput
 mouse_buttons_of input [] = None
 mouse_buttons_of input (n ∷ more) = option_map input (bit_in mouse_buttons n)
 
 unfoldable pub mouse_of : List (List ℕ) → Option DeviceInput
-mouse_of (x ∷ y ∷ more) = both_values Mouse (number_within 0 65535 x) (number_within 0 65535 y)
+mouse_of (x ∷ y ∷ more) = option_map (λ at. Mouse at.0 at.1) (option_zip (number_within 0 65535 x) (number_within 0 65535 y))
 mouse_of _ = None
 
 unfoldable pub scroll_of : List (List ℕ) → Option DeviceInput
-scroll_of (x ∷ y ∷ more) = both_values Scroll (integer_within 32768 32767 x) (integer_within 32768 32767 y)
+scroll_of (x ∷ y ∷ more) = option_map (λ by. Scroll by.0 by.1) (option_zip (integer_within 32768 32767 x) (integer_within 32768 32767 y))
 scroll_of _ = None
 
 -- what the values behind each first word make
@@ -98,7 +99,7 @@ device_of _ number values = None
 unfoldable pub events_of_line : Keyword → Version → List (List ℕ) → Option (List Event)
 events_of_line word.Input number values = option_map inputs_of (texts_of_values values)
 events_of_line word.End number values = Some (EndInput ∷ [])
-events_of_line word.Frame number values = option_map (λ count. replicate count Frame) (one_or 1000000 values)
+events_of_line word.Frame number values = option_map (λ count. replicate count Frame) (one_or MOST_TIMES values)
 events_of_line word.Key number values = keys_of number values
 events_of_line word.Shot number values = Some (Shot ∷ [])
 events_of_line word.Expect number values = expect_of number values
@@ -147,17 +148,7 @@ script_kind_of line.Unknown = Unknown
 script_kind_of line.Missing = Missing
 script_kind_of line.Extra = Extra
 
-abbrev pub script_meaning_by : Version → Result Keyword LineFault → List (List ℕ) → Result Meaning ScriptKind
-script_meaning_by number (Ok keyword) values = ok_or (script_meaning_of keyword number values) BadValue
-script_meaning_by number (Err fault) values = Err (script_kind_of fault)
-
-abbrev pub script_as_line : Result Meaning ScriptKind → Line Meaning ScriptKind
-script_as_line (Ok given) = Ok (Some given)
-script_as_line (Err kind) = Err kind
-
 -- what the words of a line mean, or what is wrong with them; a line without words or with `#` before its first means nothing
 unfoldable pub script_line_of : Version → List (List ℕ) → Line Meaning ScriptKind
-script_line_of number [] = Ok None
-script_line_of number (name ∷ values) =
-    if begins_with 35 name then Ok None
-    else script_as_line (script_meaning_by number (counted (keyword_row (rows_of number) name) (length values)) values)
+script_line_of number words =
+    line_by script_kind_of (λ keyword values. ok_or (script_meaning_of keyword number values) BadValue) (keyword_of (rows_of number) words)

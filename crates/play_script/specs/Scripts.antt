@@ -1,12 +1,13 @@
 -- What a script is: its version, and the clock, the arguments and the events of its lines, or its first faulty line (profile).
-use Rattle.std.specs.Prelude.{◌≡◌, ℕ, ◌+◌, Bool, nat_lt, if◌then◌else◌, pos, List, [], ◌∷◌, codes, length, map}
-use Rattle.std.specs.Prelude.{Option, Some, None, Result, Ok, Err}
+use Rattle.std.specs.Prelude.{◌≡◌, ℕ, ◌+◌, Bool, ◌||◌, nat_lt, if◌then◌else◌, pos, List, [], ◌∷◌, codes, length, slice_get}
+use Rattle.std.specs.Prelude.{Option, Some, None, is_some, Result, Ok, Err}
 use Rattle.std.specs.List.{flat_map}
 use Rattle.std.specs.Option.{unwrap_or}
 use Rattle.std.specs.Str.{bytes_eq}
+use Rattle.uxn_limits.specs.declared.limits.TheConstants.{TEXT_LIMIT, MOST_EVENTS}
 use Rattle.text_lines.specs.Lines.{lines_of, words_of}
 use Rattle.text_lines.specs.Numbers.{begins_with}
-use Rattle.text_lines.specs.Reading.{Line, given}
+use Rattle.text_lines.specs.Reading.{made, fault_if, text_by}
 use Rattle.play_script.specs.declared.script.Clock.{Clock}
 use Rattle.play_script.specs.declared.script.Event.{Event}
 use Rattle.play_script.specs.declared.script.ScriptKind.{ScriptKind}
@@ -66,45 +67,52 @@ arguments_of lines = flat_map arguments_in lines
 abbrev pub events_of : List Meaning → List Event
 events_of lines = flat_map events_in lines
 
--- what is wrong with a line behind these: `script` stands before all lines with words, `clock` and `args` before each line
--- that gives an event, and each stands once at most
-abbrev pub late_if : Bool → Option ScriptKind
-late_if test = if test then Some Late else None
+-- what lines gave
+pub record GatheredView : Type 0 where
+  pub version : Version
+  pub begun : Bool
+  pub clock : Option Clock
+  pub arguments : Option (List (List ℕ))
+  pub events : List Event
 
-abbrev pub script_fault : List Meaning → Meaning → Option ScriptKind
-script_fault before version = late_if (nat_lt 0 (length before))
-script_fault before (clock time) = late_if (nat_lt 0 (length (events_of before) + length (clocks_of before)))
-script_fault before (arguments texts) = late_if (nat_lt 0 (length (events_of before) + length (arguments_of before)))
-script_fault before (events given) = if nat_lt 1000000 (length (events_of before) + length given) then Some ManyEvents else None
-
--- the first of a list, or this where it is empty
-abbrev pub first_or : {A : Type 0} → A → List A → A
-first_or other [] = other
-first_or other (first ∷ more) = first
-
--- the script of what the lines give
-abbrev pub script_from : Version → List Meaning → ScriptView
-script_from number lines = record {
+abbrev pub gathered : Version → List Meaning → GatheredView
+gathered number lines = record {
   version = number;
-  clock = first_or (record { seconds = pos 0; offset = pos 0 }) (clocks_of lines);
-  arguments = first_or [] (arguments_of lines);
+  begun = nat_lt 0 (length lines);
+  clock = slice_get (clocks_of lines) 0;
+  arguments = slice_get (arguments_of lines) 0;
   events = events_of lines;
 }
 
-abbrev pub script_by : {K : Type 0} → Version → Result (List Meaning) K → Result ScriptView K
-script_by number (Ok lines) = Ok (script_from number lines)
-script_by number (Err fault) = Err fault
+-- what is wrong with a line behind those that gave this: `script` stands before all lines with words, `clock` and `args`
+-- before each line that gives an event, and each stands once at most
+abbrev pub gathering_fault : GatheredView → Meaning → Option ScriptKind
+gathering_fault before version = fault_if before.begun Late
+gathering_fault before (clock time) = fault_if (nat_lt 0 (length before.events) || is_some before.clock) Late
+gathering_fault before (arguments texts) = fault_if (nat_lt 0 (length before.events) || is_some before.arguments) Late
+gathering_fault before (events given) = fault_if (nat_lt MOST_EVENTS (length before.events + length given)) ManyEvents
 
--- each line by itself
-abbrev pub script_lines : Version → List (List ℕ) → List (Line Meaning ScriptKind)
-script_lines number lines = map (λ line. script_line_of number (words_of line)) lines
+abbrev pub script_fault : Version → List Meaning → Meaning → Option ScriptKind
+script_fault number before line = gathering_fault (gathered number before) line
 
-abbrev pub script_in : List (List ℕ) → Result ScriptView (ℕ × ScriptKind)
-script_in lines = script_by (version_in lines) (given script_fault 1 [] (script_lines (version_in lines) lines))
+-- the script of all lines
+abbrev pub finished_script : GatheredView → ScriptView
+finished_script all = record {
+  version = all.version;
+  clock = unwrap_or all.clock (record { seconds = pos 0; offset = pos 0 });
+  arguments = unwrap_or all.arguments [];
+  events = all.events;
+}
+
+abbrev pub script_from : Version → List Meaning → ScriptView
+script_from number lines = finished_script (gathered number lines)
 
 -- the script of a text, or its first faulty line and the first fault there
+abbrev pub script_in : Version → List ℕ → Result ScriptView (ℕ × ScriptKind)
+script_in number text = made (script_from number) (text_by TEXT_LIMIT LongScript (script_fault number) (script_line_of number) text)
+
 unfoldable pub script_of : List ℕ → Result ScriptView (ℕ × ScriptKind)
-script_of text = if nat_lt 4194304 (length text) then Err (1, LongScript) else script_in (lines_of text)
+script_of text = script_in (version_in (lines_of text)) text
 
 -- a script is read as it is defined, unless memory runs out
 abbrev pub ReadsScript : Result ScriptView ScriptStop → Result ScriptView (ℕ × ScriptKind) → Type 0

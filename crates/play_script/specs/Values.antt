@@ -1,6 +1,7 @@
 -- What the words behind a line's first word represent (profile). A word is never empty.
-use Rattle.std.specs.Prelude.{ℕ, List, [], ◌∷◌, codes, drop, map, if◌then◌else◌, Option, Some, None, option_map}
+use Rattle.std.specs.Prelude.{ℕ, List, [], ◌∷◌, codes, drop, map, if◌then◌else◌, Option, Some, option_map}
 use Rattle.std.specs.Result.{result_ok}
+use Rattle.std.specs.Option.{option_zip}
 use Rattle.std.specs.List.{find}
 use Rattle.std.specs.Str.{bytes_eq}
 use Rattle.hex.specs.Hex.{decode_of}
@@ -11,16 +12,10 @@ use Rattle.play_script.specs.declared.values.ButtonRow.{ButtonRow}
 unfoldable pub text_of_values : List ℕ → Option (List ℕ)
 text_of_values word = if begins_with 34 word then Some (drop 1 word) else result_ok (decode_of word)
 
--- both, or neither
-abbrev pub both_values : {A B C : Type 0} → (A → B → C) → Option A → Option B → Option C
-both_values make None second = None
-both_values make (Some a) None = None
-both_values make (Some a) (Some b) = Some (make a b)
-
 -- the texts of all words, where each of them is one
 abbrev pub texts_of_values : List (List ℕ) → Option (List (List ℕ))
 texts_of_values [] = Some []
-texts_of_values (word ∷ words) = both_values (λ text texts. text ∷ texts) (text_of_values word) (texts_of_values words)
+texts_of_values (word ∷ words) = option_map (λ both. both.0 ∷ both.1) (option_zip (text_of_values word) (texts_of_values words))
 
 -- buttons by their names, with their bits
 abbrev pub Buttons : Type 0

@@ -19,19 +19,9 @@ use crate::script::{Clock, Event, LineStop, ScriptKind, Version};
 use crate::values::{bit_in, buttons, mouse_buttons, one_or, text_of_values};
 use input_ports::Input;
 use std::alloc::{AllocError, Global};
-use text_lines::{
-    LineFault, begins_with, byte_of, first_word, integer_within, keyword_line, number_within,
-};
+use text_lines::{LineFault, byte_of, first_word, integer_within, keyword_of, number_within};
 use uxn_io_traits::Bytes;
-
-/// The greatest seconds of a script's clock.
-const LAST_SECOND: u64 = 253_370_000_000;
-
-/// The greatest offset of a script's clock, in minutes, to either side of UTC.
-const LAST_OFFSET: u64 = 840;
-
-/// The most frames or keys of one line.
-const MOST_TIMES: u64 = 1_000_000;
+use uxn_limits::limits;
 
 /// The players of a controller.
 const PLAYERS: u64 = 4;
@@ -46,17 +36,18 @@ pub(crate) enum Meaning {
     Times(Event, u32),
 }
 
-impl From<LineFault> for ScriptKind {
+impl From<LineFault> for LineStop {
     ghost use Rattle.play_script.specs.Rows.{script_kind_of};
+    ghost use Rattle.play_script.specs.declared.script.LineStop.TheVariants.{Faulty};
 
-    ghost from_gives = { λ fault kind. kind ≡ script_kind_of fault };
+    ghost from_gives = { λ fault stop. stop ≡ Faulty (script_kind_of fault) };
 
-    fn from(fault: LineFault) -> ScriptKind {
-        match fault {
+    fn from(fault: LineFault) -> LineStop {
+        LineStop::Faulty(match fault {
             LineFault::Unknown => ScriptKind::Unknown,
             LineFault::Missing => ScriptKind::Missing,
             LineFault::Extra => ScriptKind::Extra,
-        }
+        })
     }
 }
 
@@ -70,18 +61,12 @@ pub(crate) fn script_line_of(
     ensures fits { FitsLine result (script_line_of version (words_of line.now)) }
     ensures limits { IfOk result (λ given. IfSome given (IsScriptRead version (length line.now))) }
 {
-    let Some((name, values)) = first_word(line) else {
-        return Ok(None);
-    };
-    if begins_with(b'#', name) {
-        return Ok(None);
-    }
-    match keyword_line(rows_of(version), name, values) {
-        Ok(keyword) => match script_meaning_of(alloc, version, keyword, values)? {
+    match keyword_of(rows_of(version), line)? {
+        Some((keyword, values)) => match script_meaning_of(alloc, version, keyword, values)? {
             Some(meaning) => Ok(Some(meaning)),
             None => Err(LineStop::Faulty(ScriptKind::BadValue)),
         },
-        Err(fault) => Err(LineStop::Faulty(ScriptKind::from(fault))),
+        None => Ok(None),
     }
 }
 
@@ -108,7 +93,7 @@ fn script_meaning_of(
             None => Ok(None),
         },
         Keyword::End => Ok(Some(Meaning::Times(Event::EndInput, 1))),
-        Keyword::Frame => match one_or(MOST_TIMES, values) {
+        Keyword::Frame => match one_or(limits::MOST_TIMES, values) {
             Some(count) => Ok(Some(Meaning::Times(Event::Frame, count as u32))),
             None => Ok(None),
         },
@@ -166,8 +151,8 @@ fn clock_of_values(values: &[u8]) -> Option<Meaning>
 {
     let (seconds, more) = first_word(values)?;
     let (offset, _) = first_word(more)?;
-    let seconds = number_within(0, LAST_SECOND, seconds)? as i64;
-    let offset = integer_within(LAST_OFFSET, LAST_OFFSET, offset)? as i32;
+    let seconds = number_within(0, limits::LAST_SECOND, seconds)? as i64;
+    let offset = integer_within(limits::LAST_OFFSET, limits::LAST_OFFSET, offset)? as i32;
     Some(Meaning::ClockLine(Clock { seconds, offset }))
 }
 
@@ -178,7 +163,7 @@ fn keys_of(version: Version, values: &[u8]) -> Option<Meaning>
 {
     let (word, more) = first_word(values)?;
     let byte = byte_of(word)?;
-    let count = further_of(version, MOST_TIMES, more)? as u32;
+    let count = further_of(version, limits::MOST_TIMES, more)? as u32;
     Some(Meaning::Times(Event::Device(Input::Key(byte)), count))
 }
 

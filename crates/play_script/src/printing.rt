@@ -1,8 +1,9 @@
 //! Printing a script.
 
-ghost use Rattle.std.specs.Prelude.{◌≡◌, ◌≤◌, ℕ, List, [], ◌∷◌, ◌++◌, codes, length, map, decimal, Ok, OnOk, IfOk};
+ghost use Rattle.std.specs.Prelude.{◌≡◌, ◌≤◌, ◌+◌, ℕ, List, [], ◌∷◌, ◌++◌, codes, length, map, decimal, Ok, OnOk, IfOk};
 ghost use Rattle.std.specs.List.{flat_map};
 ghost use Rattle.std.specs.Fmt.{signed_decimal};
+ghost use Rattle.uxn_limits.specs.declared.limits.TheConstants.{TEXT_LIMIT};
 ghost use Rattle.hex.specs.Hex.{encode_lower};
 ghost use Rattle.play_script.specs.Held.{bytes_in};
 ghost use Rattle.play_script.specs.Limits.{IsScript};
@@ -24,7 +25,7 @@ use uxn_io_traits::{Bytes, decimal};
 
 /// The plain text of a script: `script 2` where that is its version, a line for the clock, one for the arguments if there are
 /// any, and one for each event.
-/// Where it has at most 4,194,304 bytes, reading it gives an equal script.
+/// Where it has at most `TEXT_LIMIT` bytes, reading it gives an equal script.
 #[tactic(auto, using(crate::proofs::LineTexts::plain_parts))]
 pub fn print_script(alloc: Global, script: &Script) -> Result<Vec<u8>, AllocError>
     ensures { IfOk result (λ text. text.items ≡ plain_text script.now) }
@@ -198,11 +199,11 @@ fn put_signed(text: &mut Vec<u8>, number: i64) -> Result<(), AllocError>
 
 /// The plain text of a script reads as an equal script, where it is not too long.
 pub fn printed_scripts_are_read()
-    ensures { (script : ScriptView) → IsScript script → length (plain_text script) ≤ 4194304 → script_of (plain_text script) ≡ Ok script }
+    ensures { (script : ScriptView) → IsScript script → length (plain_text script) ≤ TEXT_LIMIT → script_of (plain_text script) ≡ Ok script }
 {}
 
 /// A text of version 1 is read by version 2 too, with the same clock, arguments and events, where `script 2` stands before it.
 pub fn version_2_reads_version_1()
-    ensures { (text : List ℕ) (script : ScriptView) → length text ≤ 4194295 → script_of text ≡ Ok script → script.version ≡ First
+    ensures { (text : List ℕ) (script : ScriptView) → length text + 9 ≤ TEXT_LIMIT → script_of text ≡ Ok script → script.version ≡ First
         → script_of (codes "script 2" ++ 10 ∷ text) ≡ Ok (record script { version = Second }) }
 {}

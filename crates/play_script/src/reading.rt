@@ -1,6 +1,7 @@
 //! Reading a script.
 
 ghost use Rattle.std.specs.Prelude.{◌≡◌, ◌+◌, ◌≤◌, ◌++◌, length, map, IfOk, OnOk};
+ghost use Rattle.uxn_limits.specs.declared.limits.TheConstants.{TEXT_LIMIT};
 ghost use Rattle.text_lines.specs.Lines.{words_of, lines_of};
 ghost use Rattle.play_script.specs.Held.{bytes_in};
 ghost use Rattle.play_script.specs.Rows.{inputs_of};
@@ -14,20 +15,15 @@ use std::alloc::{AllocError, Global};
 use std::marker::Model;
 use text_lines::{Lines, begins_with, first_word};
 use uxn_io_traits::Bytes;
+use uxn_limits::limits;
 
-/// The greatest length of a script, in bytes.
-const LONGEST: usize = 4_194_304;
-
-/// The most events of a script.
-const MOST_EVENTS: usize = 1_000_000;
-
-/// Reads a script of at most 4,194,304 bytes and 1,000,000 events. Refused with the first faulty line, counted from 1,
+/// Reads a script of at most `TEXT_LIMIT` bytes and `MOST_EVENTS` events. Refused with the first faulty line, counted from 1,
 /// and the first fault there.
 #[tactic(auto, unfolding(crate::specs::Scripts::script_of))]
 pub fn read_script(alloc: Global, text: &[u8]) -> Result<Script, ScriptStop>
     ensures { ReadsScript result (script_of text.now) }
 {
-    if text.len() > LONGEST {
+    if text.len() > limits::TEXT_LIMIT {
         return Err(ScriptStop::Refused {
             line: 1,
             kind: ScriptKind::LongScript,
@@ -46,7 +42,7 @@ pub fn read_script(alloc: Global, text: &[u8]) -> Result<Script, ScriptStop>
 
 // The version of a script: the first word of its first line with words tells it.
 fn version_of(text: &[u8]) -> Version
-    requires { length text.now ≤ 4194304 }
+    requires { length text.now ≤ TEXT_LIMIT }
     ensures { result ≡ version_in (lines_of text.now) }
 {
     let mut lines = Lines::new(text);
@@ -94,7 +90,8 @@ struct Gathered {
 
 impl Model for Gathered {
     ghost use Rattle.play_script.specs.Held.{texts_if};
-    ghost use Rattle.play_script.specs.Gathered.{GatheredView, IsGatheredScript, so_far};
+    ghost use Rattle.play_script.specs.Gathered.{IsGatheredScript, so_far};
+    ghost use Rattle.play_script.specs.Scripts.{GatheredView};
 
     ghost Value = { GatheredView };
 
@@ -105,9 +102,11 @@ impl Model for Gathered {
 
 impl Gathered {
     ghost use Rattle.std.specs.Prelude.{◌≤◌, [], length, replicate};
+    ghost use Rattle.uxn_limits.specs.declared.limits.TheConstants.{TEXT_LIMIT};
     ghost use Rattle.text_lines.specs.Lines.{words_of};
     ghost use Rattle.play_script.specs.Rows.{version, clock, arguments, events, script_line_of};
-    ghost use Rattle.play_script.specs.Gathered.{gathered, finished_script, shown, IsScriptRead, TakesMeaning, TakesLine};
+    ghost use Rattle.play_script.specs.Scripts.{gathered, finished_script};
+    ghost use Rattle.play_script.specs.Gathered.{shown, IsScriptRead, TakesMeaning, TakesLine};
     ghost use Rattle.play_script.specs.Held.{bytes_in};
     ghost use Rattle.play_script.specs.Limits.{AreTexts, IsEvent, IsTime};
 
@@ -126,7 +125,7 @@ impl Gathered {
 
     // Takes what a line gives. Nothing is taken of a line with a fault.
     fn take_line(&mut self, alloc: Global, line: &[u8]) -> Result<(), LineStop>
-        requires { length line.now ≤ 4194304 }
+        requires { length line.now ≤ TEXT_LIMIT }
         ensures { TakesLine self.old (script_line_of self.old.version (words_of line.now)) result self.new }
     {
         match script_line_of(alloc, self.version, line)? {
@@ -136,7 +135,7 @@ impl Gathered {
     }
 
     fn take(&mut self, alloc: Global, meaning: Meaning) -> Result<(), LineStop>
-        requires { IsScriptRead self.old.version 4194304 meaning }
+        requires { IsScriptRead self.old.version TEXT_LIMIT meaning }
         ensures { TakesMeaning self.old (shown meaning) result self.new }
     {
         match meaning {
@@ -171,7 +170,7 @@ impl Gathered {
     }
 
     fn take_arguments(&mut self, texts: Vec<Bytes>) -> Result<(), LineStop>
-        requires { AreTexts 4194304 (bytes_in texts.items) }
+        requires { AreTexts TEXT_LIMIT (bytes_in texts.items) }
         ensures { TakesMeaning self.old (arguments (bytes_in texts.items)) result self.new }
     {
         if !self.events.is_empty() || self.arguments.is_some() {
@@ -183,11 +182,11 @@ impl Gathered {
     }
 
     fn take_inputs(&mut self, alloc: Global, texts: Vec<Bytes>) -> Result<(), LineStop>
-        requires { AreTexts 4194304 (bytes_in texts.items) }
+        requires { AreTexts TEXT_LIMIT (bytes_in texts.items) }
         ensures { TakesMeaning self.old (events (inputs_of (bytes_in texts.items))) result self.new }
     {
         let given = inputs_of(alloc, &texts)?;
-        if given.len() > MOST_EVENTS - self.events.len() {
+        if given.len() > limits::MOST_EVENTS - self.events.len() {
             return Err(LineStop::Faulty(ScriptKind::ManyEvents));
         }
         self.begun = true;
@@ -199,7 +198,7 @@ impl Gathered {
         requires { IsEvent self.old.version given }
         ensures { TakesMeaning self.old (events (replicate count given)) result self.new }
     {
-        if count > MOST_EVENTS - self.events.len() {
+        if count > limits::MOST_EVENTS - self.events.len() {
             return Err(LineStop::Faulty(ScriptKind::ManyEvents));
         }
         let all = self.events.len() + count;

@@ -11,9 +11,9 @@ use uxn_io_traits::Bytes;
 /// The moment at which a script begins.
 #[derive(Clone, Copy, PartialEq, Eq)]
 pub struct Clock {
-    /// Seconds since 1970-01-01 00:00:00 UTC, 0 to 253,370,000,000.
+    /// Seconds since 1970-01-01 00:00:00 UTC, 0 to `LAST_SECOND`.
     pub seconds: i64,
-    /// How many minutes the clock is ahead of UTC, -840 to 840.
+    /// How many minutes the clock is ahead of UTC, at most `LAST_OFFSET` to either side.
     pub offset: i32,
 }
 
@@ -88,8 +88,8 @@ impl Script {
         }
     }
 
-    /// Tells contracts what holds of every script: the ranges of its clock, at most 1,000,000 events, and at most
-    /// 4,194,304 bytes and spacers of arguments.
+    /// Tells contracts what holds of every script: the ranges of its clock, at most `MOST_EVENTS` events, and at most
+    /// `TEXT_LIMIT` bytes and spacers of arguments.
     pub fn known(&self)
         ensures { IsScript self.now }
     {
@@ -142,9 +142,9 @@ pub enum ScriptKind {
     /// `args` or `clock` stands after a line that gives an event, or after a line of the same word; or `script` stands on
     /// another line than the first with words.
     Late,
-    /// With this line there are more than 1,000,000 events.
+    /// With this line there are more than `MOST_EVENTS` events.
     ManyEvents,
-    /// The script has more than 4,194,304 bytes.
+    /// The script has more than `TEXT_LIMIT` bytes.
     LongScript,
 }
 

@@ -4,12 +4,12 @@ use Rattle.std.specs.Prelude.{slice_get, is_some}
 use Rattle.std.specs.List.{flat_map}
 use Rattle.std.proofs.lemmas.List.Concat.{flat_map-append}
 use Rattle.text_lines.specs.Lines.{LinesView, lines_of, words_of}
-use Rattle.text_lines.specs.Reading.{Line, given}
+use Rattle.text_lines.specs.Reading.{Line, given, fault_if, each_line}
 use Rattle.setup_lines.specs.declared.setup.SetupKind.{SetupKind}
 use Rattle.setup_lines.specs.declared.setup_line.SetupLine.{SetupLine}
 use Rattle.setup_lines.specs.declared.setup_line.SetupLine.TheVariants.{Machine, Script, Budget, Turn}
 use Rattle.setup_lines.specs.SetupLines.{setup_line_of}
-use Rattle.setup_lines.specs.Setups.{SetupView, sources_in, scripts_in, budgets_in, schedule_in, setup_from, fault_if, setup_fault, lines_of_setup}
+use Rattle.setup_lines.specs.Setups.{SetupView, sources_in, scripts_in, budgets_in, schedule_in, setup_from, setup_fault}
 use Rattle.setup_lines.specs.Gathered.{validated, grown}
 
 -- one line more gives what it gives
@@ -42,7 +42,7 @@ grows before (Turn turns) fine =
 pub record Standing (text : List ℕ) (lines : LinesView) (so_far : SetupView) : Type 0 where
   pub before : List SetupLine
   pub gathers : so_far ≡ setup_from before
-  pub rest : given setup_fault (lines.number + 1) before (lines_of_setup lines.left) ≡ given setup_fault 1 [] (lines_of_setup (lines_of text))
+  pub rest : given setup_fault (lines.number + 1) before (each_line setup_line_of lines.left) ≡ given setup_fault 1 [] (each_line setup_line_of (lines_of text))
 
 -- how a line goes on that is validated to give something, to give nothing, or to be faulty
 abbrev Goes : ℕ → List SetupLine → Line SetupLine SetupKind → List (Line SetupLine SetupKind) → Line SetupLine SetupKind → Type 0
@@ -64,15 +64,15 @@ goes at before (Err kind) left = refl
 -- the next line, as it is validated
 next_line : (text line : List ℕ) (lines next : LinesView) (so_far : SetupView) (answer : Line SetupLine SetupKind) → (standing : Standing text lines so_far) → lines.left ≡ line ∷ next.left
     → answer ≡ validated so_far (setup_line_of (words_of line))
-    → Goes (lines.number + 1) standing.before (setup_line_of (words_of line)) (lines_of_setup next.left) answer
+    → Goes (lines.number + 1) standing.before (setup_line_of (words_of line)) (each_line setup_line_of next.left) answer
 next_line text line lines next so_far answer standing cut is =
-    rw (is, standing.gathers) (goes (lines.number + 1) standing.before (setup_line_of (words_of line)) (lines_of_setup next.left))
+    rw (is, standing.gathers) (goes (lines.number + 1) standing.before (setup_line_of (words_of line)) (each_line setup_line_of next.left))
 
 -- what is left, with the next line before it
 with_next : (text line : List ℕ) (lines next : LinesView) (so_far : SetupView) → (standing : Standing text lines so_far) → lines.left ≡ line ∷ next.left
-    → given setup_fault (lines.number + 1) standing.before (setup_line_of (words_of line) ∷ lines_of_setup next.left) ≡ given setup_fault 1 [] (lines_of_setup (lines_of text))
+    → given setup_fault (lines.number + 1) standing.before (setup_line_of (words_of line) ∷ each_line setup_line_of next.left) ≡ given setup_fault 1 [] (each_line setup_line_of (lines_of text))
 with_next text line lines next so_far standing cut =
-    ap (λ left. given setup_fault (lines.number + 1) standing.before (lines_of_setup left)) (sym cut) ∙ standing.rest
+    ap (λ left. given setup_fault (lines.number + 1) standing.before (each_line setup_line_of left)) (sym cut) ∙ standing.rest
 
 pub taken : (text line : List ℕ) (lines next : LinesView) (so_far after : SetupView) (found : SetupLine) → Standing text lines so_far → lines.left ≡ line ∷ next.left
     → next.number ≡ lines.number + 1 → Ok (Some found) ≡ validated so_far (setup_line_of (words_of line)) → after ≡ grown so_far found → Standing text next after
@@ -81,7 +81,7 @@ taken text line lines next so_far after found standing cut counted is grew =
     record {
       before = standing.before ++ found ∷ [];
       gathers = grew ∙ ap (λ view. grown view found) standing.gathers ∙ sym (grows standing.before found step.1);
-      rest = ap (λ at. given setup_fault (at + 1) (standing.before ++ found ∷ []) (lines_of_setup next.left)) counted ∙ sym step.0
+      rest = ap (λ at. given setup_fault (at + 1) (standing.before ++ found ∷ []) (each_line setup_line_of next.left)) counted ∙ sym step.0
           ∙ with_next text line lines next so_far standing cut;
     }
 
@@ -92,20 +92,20 @@ passed text line lines next so_far standing cut counted is =
     record {
       before = standing.before;
       gathers = standing.gathers;
-      rest = ap (λ at. given setup_fault (at + 1) standing.before (lines_of_setup next.left)) counted ∙ sym step
+      rest = ap (λ at. given setup_fault (at + 1) standing.before (each_line setup_line_of next.left)) counted ∙ sym step
           ∙ with_next text line lines next so_far standing cut;
     }
 
 -- a line is refused
 pub refused : (text line : List ℕ) (lines next : LinesView) (so_far : SetupView) (kind : SetupKind) → Standing text lines so_far → lines.left ≡ line ∷ next.left
     → next.number ≡ lines.number + 1 → Err kind ≡ validated so_far (setup_line_of (words_of line))
-    → given setup_fault 1 [] (lines_of_setup (lines_of text)) ≡ Err (next.number, kind)
+    → given setup_fault 1 [] (each_line setup_line_of (lines_of text)) ≡ Err (next.number, kind)
 refused text line lines next so_far kind standing cut counted is =
     let step = next_line text line lines next so_far (Err kind) standing cut is in
     sym (with_next text line lines next so_far standing cut) ∙ step ∙ ap (λ at. Err (at, kind)) (sym counted)
 
 -- all lines are taken
 pub all_taken : (text : List ℕ) (lines : LinesView) (so_far : SetupView) → Standing text lines so_far → lines.left ≡ []
-    → (all : List SetupLine) × (so_far ≡ setup_from all) × (given setup_fault 1 [] (lines_of_setup (lines_of text)) ≡ Ok all)
+    → (all : List SetupLine) × (so_far ≡ setup_from all) × (given setup_fault 1 [] (each_line setup_line_of (lines_of text)) ≡ Ok all)
 all_taken text lines so_far standing end =
-    (standing.before, standing.gathers, sym standing.rest ∙ ap (λ left. given setup_fault (lines.number + 1) standing.before (lines_of_setup left)) end)
+    (standing.before, standing.gathers, sym standing.rest ∙ ap (λ left. given setup_fault (lines.number + 1) standing.before (each_line setup_line_of left)) end)

@@ -1,5 +1,6 @@
 -- What one more line changes.
 use Rattle.std.specs.Prelude.{nat_lt, if◌then◌else◌, [], ◌∷◌, ◌++◌, length, Option, Some, None, Result, Ok, Err}
+use Rattle.uxn_limits.specs.declared.limits.TheConstants.{FEWEST_MACHINES}
 use Rattle.text_lines.specs.Reading.{Line}
 use Rattle.setup_lines.specs.declared.setup.SetupKind.{SetupKind}
 use Rattle.setup_lines.specs.declared.setup.SetupKind.TheVariants.{FewMachines}
@@ -28,4 +29,4 @@ grown before (Turn turns) = record before { schedule = before.schedule ++ turns 
 
 -- the setup of all lines
 abbrev pub finished_setup : SetupView → Result SetupView SetupStop
-finished_setup all = if nat_lt (length all.sources) 2 then Err (Refused 1 FewMachines) else Ok all
+finished_setup all = if nat_lt (length all.sources) FEWEST_MACHINES then Err (Refused 1 FewMachines) else Ok all

@@ -1,13 +1,14 @@
 -- What a line of a setup gives (profile), a row for each first word.
-use Rattle.std.specs.Prelude.{ℕ, if◌then◌else◌, List, [], ◌∷◌, codes, length, Option, Some, None, option_map, Result, Ok, Err}
-use Rattle.std.specs.Option.{ok_or}
+use Rattle.std.specs.Prelude.{ℕ, List, [], ◌∷◌, codes, Option, None, option_map}
+use Rattle.std.specs.Option.{ok_or, option_zip}
 use Rattle.std.specs.Result.{result_ok}
+use Rattle.uxn_limits.specs.declared.limits.TheConstants.{MOST_MACHINES, TURNS_OF_LINE, GREATEST_BUDGET}
 use Rattle.text_lines.specs.declared.row.Counts.TheVariants.{Exactly}
 use Rattle.text_lines.specs.declared.row.LineFault.{LineFault}
 use Rattle.text_lines.specs.declared.row.LineFault.TheVariants as line
-use Rattle.text_lines.specs.Numbers.{begins_with, number_within}
+use Rattle.text_lines.specs.Numbers.{number_within}
 use Rattle.text_lines.specs.Reading.{Line}
-use Rattle.text_lines.specs.Rows.{Rows, keyword_row, counted}
+use Rattle.text_lines.specs.Rows.{Rows, keyword_of, line_by}
 use Rattle.uxn_io_traits.specs.PathText.{path_of}
 use Rattle.setup_lines.specs.declared.keyword.Keyword.{Keyword}
 use Rattle.setup_lines.specs.declared.keyword.Keyword.TheVariants as word
@@ -27,18 +28,15 @@ rows =
     ∷ []
 
 -- so many turns of a machine, where both are numbers of their ranges
-abbrev pub turns_if : Option ℕ → Option ℕ → Option Turns
-turns_if (Some m) (Some n) = Some (record { machine = m; count = n })
-turns_if _ _ = None
-
 abbrev pub turns_of : List ℕ → List ℕ → Option Turns
-turns_of m n = turns_if (number_within 1 8 m) (number_within 1 1000000 n)
+turns_of m n = option_map (λ both. record { machine = both.0; count = both.1 })
+    (option_zip (number_within 1 MOST_MACHINES m) (number_within 1 TURNS_OF_LINE n))
 
 -- what the values behind a first word give, as many as it takes; nothing where one is not of its form or range
 unfoldable pub setup_of_values : Keyword → List (List ℕ) → Option SetupLine
 setup_of_values word.Machine (path ∷ more) = option_map Machine (result_ok (path_of path))
 setup_of_values word.Script (path ∷ more) = option_map Script (result_ok (path_of path))
-setup_of_values word.Budget (n ∷ more) = option_map Budget (number_within 1 4294967295 n)
+setup_of_values word.Budget (n ∷ more) = option_map Budget (number_within 1 GREATEST_BUDGET n)
 setup_of_values word.Turn (m ∷ n ∷ more) = option_map Turn (turns_of m n)
 setup_of_values _ values = None
 
@@ -47,16 +45,6 @@ setup_kind_of line.Unknown = Unknown
 setup_kind_of line.Missing = Missing
 setup_kind_of line.Extra = Extra
 
-abbrev pub setup_by_keyword : Result Keyword LineFault → List (List ℕ) → Result SetupLine SetupKind
-setup_by_keyword (Ok keyword) values = ok_or (setup_of_values keyword values) BadValue
-setup_by_keyword (Err fault) values = Err (setup_kind_of fault)
-
-abbrev pub setup_as_line : Result SetupLine SetupKind → Line SetupLine SetupKind
-setup_as_line (Ok given) = Ok (Some given)
-setup_as_line (Err kind) = Err kind
-
 -- what the words of a line give, or what is wrong with them; a line without words or with `#` before its first gives nothing
 unfoldable pub setup_line_of : List (List ℕ) → Line SetupLine SetupKind
-setup_line_of [] = Ok None
-setup_line_of (name ∷ values) =
-    if begins_with 35 name then Ok None else setup_as_line (setup_by_keyword (counted (keyword_row rows name) (length values)) values)
+setup_line_of words = line_by setup_kind_of (λ keyword values. ok_or (setup_of_values keyword values) BadValue) (keyword_of rows words)

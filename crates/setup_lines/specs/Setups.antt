@@ -1,9 +1,9 @@
 -- What a setup is: what its lines give, or its first faulty line (profile).
-use Rattle.std.specs.Prelude.{◌≡◌, ℕ, ◌+◌, Bool, is_some, nat_lt, if◌then◌else◌, List, [], ◌∷◌, length, map, slice_get}
-use Rattle.std.specs.Prelude.{Option, Some, None, Result, Ok, Err}
+use Rattle.std.specs.Prelude.{◌≡◌, ℕ, ◌+◌, is_some, nat_lt, if◌then◌else◌, List, [], ◌∷◌, length, slice_get}
+use Rattle.std.specs.Prelude.{Option, Some, Result, Ok, Err}
 use Rattle.std.specs.List.{flat_map, sum_by}
-use Rattle.text_lines.specs.Lines.{lines_of, words_of}
-use Rattle.text_lines.specs.Reading.{Line, given}
+use Rattle.uxn_limits.specs.declared.limits.TheConstants.{TEXT_LIMIT, FEWEST_MACHINES, MOST_MACHINES, MOST_TURNS}
+use Rattle.text_lines.specs.Reading.{fault_if, text_by}
 use Rattle.setup_lines.specs.declared.setup.SetupKind.{SetupKind}
 use Rattle.setup_lines.specs.declared.setup.SetupKind.TheVariants.{Twice, ManyMachines, NoMachine, ManyTurns, FewMachines, LongSetup}
 use Rattle.setup_lines.specs.declared.setup.SetupStop.{SetupStop}
@@ -54,36 +54,27 @@ setup_from lines = record {
   schedule = flat_map schedule_in lines;
 }
 
--- a fault where the test holds
-abbrev pub fault_if : Bool → SetupKind → Option SetupKind
-fault_if test kind = if test then Some kind else None
-
--- what is wrong with a line behind those that gave this: there are 8 machines at most, one `script` and one `budget`; turns are of
--- machines that are there, and 10,000,000 at most
+-- what is wrong with a line behind those that gave this: too many machines, a second `script` or `budget`, turns of no machine that is
+-- there, or too many turns
 abbrev pub setup_gathering_fault : SetupView → SetupLine → Option SetupKind
-setup_gathering_fault before (Machine path) = fault_if (nat_lt 8 (length before.sources + 1)) ManyMachines
+setup_gathering_fault before (Machine path) = fault_if (nat_lt MOST_MACHINES (length before.sources + 1)) ManyMachines
 setup_gathering_fault before (Script path) = fault_if (is_some before.script) Twice
 setup_gathering_fault before (Budget number) = fault_if (is_some before.budget) Twice
 setup_gathering_fault before (Turn turns) =
     if nat_lt (length before.sources) turns.machine then Some NoMachine
-    else fault_if (nat_lt 10000000 (turns_in before.schedule + turns.count)) ManyTurns
+    else fault_if (nat_lt MOST_TURNS (turns_in before.schedule + turns.count)) ManyTurns
 
 abbrev pub setup_fault : List SetupLine → SetupLine → Option SetupKind
 setup_fault before line = setup_gathering_fault (setup_from before) line
 
--- the setup of lines without a fault, which give two machines at least
+-- the setup of lines without a fault, which give enough machines
 abbrev pub setup_by : Result (List SetupLine) (ℕ × SetupKind) → Result SetupView (ℕ × SetupKind)
-setup_by (Ok lines) = if nat_lt (length (setup_from lines).sources) 2 then Err (1, FewMachines) else Ok (setup_from lines)
+setup_by (Ok lines) = if nat_lt (length (setup_from lines).sources) FEWEST_MACHINES then Err (1, FewMachines) else Ok (setup_from lines)
 setup_by (Err fault) = Err fault
-
--- each line by itself
-abbrev pub lines_of_setup : List (List ℕ) → List (Line SetupLine SetupKind)
-lines_of_setup lines = map (λ line. setup_line_of (words_of line)) lines
 
 -- the setup of a text, or its first faulty line and the first fault there
 unfoldable pub setup_of : List ℕ → Result SetupView (ℕ × SetupKind)
-setup_of text =
-    if nat_lt 4194304 (length text) then Err (1, LongSetup) else setup_by (given setup_fault 1 [] (lines_of_setup (lines_of text)))
+setup_of text = setup_by (text_by TEXT_LIMIT LongSetup setup_fault setup_line_of text)
 
 -- a setup is read as it is defined, unless memory runs out
 abbrev pub ReadsSetup : Result SetupView SetupStop → Result SetupView (ℕ × SetupKind) → Type 0

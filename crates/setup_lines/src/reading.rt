@@ -8,26 +8,15 @@ use std::alloc::{AllocError, Global};
 use std::marker::Model;
 use text_lines::Lines;
 use uxn_io_traits::Path;
+use uxn_limits::limits;
 
-/// The greatest length of a setup, in bytes.
-const LONGEST: usize = 4_194_304;
-
-/// The fewest machines of a line.
-const FEWEST_MACHINES: usize = 2;
-
-/// The most machines of a line.
-const MOST_MACHINES: usize = 8;
-
-/// The most turns of a setup.
-const MOST_TURNS: u32 = 10_000_000;
-
-/// Reads a setup of at most 4,194,304 bytes. Refused with the first faulty line, counted from 1, and the first fault there;
+/// Reads a setup of at most `TEXT_LIMIT` bytes. Refused with the first faulty line, counted from 1, and the first fault there;
 /// at line 1 where no line is faulty and fewer than two machines are given.
 #[tactic(auto, unfolding(crate::specs::Setups::setup_of))]
 pub fn read_setup(alloc: Global, text: &[u8]) -> Result<Setup, SetupStop>
     ensures { ReadsSetup result (setup_of text.now) }
 {
-    if text.len() > LONGEST {
+    if text.len() > limits::TEXT_LIMIT {
         return Err(SetupStop::Refused {
             line: 1,
             kind: SetupKind::LongSetup,
@@ -113,7 +102,7 @@ impl Gathered {
     {
         match given {
             SetupLine::Machine(_) => {
-                if self.sources.len() >= MOST_MACHINES {
+                if self.sources.len() >= limits::MOST_MACHINES {
                     return Some(SetupKind::ManyMachines);
                 }
             }
@@ -131,7 +120,7 @@ impl Gathered {
                 if turns.machine as usize > self.sources.len() {
                     return Some(SetupKind::NoMachine);
                 }
-                if turns.count > MOST_TURNS - self.turns {
+                if turns.count > limits::MOST_TURNS - self.turns {
                     return Some(SetupKind::ManyTurns);
                 }
             }
@@ -168,7 +157,7 @@ impl Gathered {
             schedule,
             ..
         } = self;
-        if sources.len() < FEWEST_MACHINES {
+        if sources.len() < limits::FEWEST_MACHINES {
             return Err(SetupStop::Refused {
                 line: 1,
                 kind: SetupKind::FewMachines,

@@ -7,9 +7,7 @@ use std::marker::Model;
 use text_lines::LineFault;
 use thiserror::Error;
 use uxn_io_traits::Path;
-
-/// The budget of every vector where a setup gives none.
-const USUAL_BUDGET: u32 = 4_000_000;
+use uxn_limits::limits;
 
 /// So many turns of one machine, one after the other.
 #[derive(Clone, Copy, PartialEq, Eq)]
@@ -45,6 +43,7 @@ impl Setup {
     ghost use Rattle.std.specs.Prelude.{◌≡◌, ◌≤◌, length};
     ghost use Rattle.std.specs.List.{All};
     ghost use Rattle.std.specs.Option.{unwrap_or};
+    ghost use Rattle.uxn_limits.specs.declared.limits.TheConstants.{FEWEST_MACHINES, MOST_MACHINES, MOST_TURNS, USUAL_BUDGET};
     ghost use Rattle.setup_lines.specs.Limits.{IsSetup, AreTurns};
     ghost use Rattle.setup_lines.specs.Setups.{of_parts, turns_in};
 
@@ -69,8 +68,8 @@ impl Setup {
     /// The paths of the sources, machine by machine.
     pub fn sources(&self) -> &[Path]
         ensures paths { result.now ≡ self.now.sources }
-        ensures least { 2 ≤ length result.now }
-        ensures most { length result.now ≤ 8 }
+        ensures least { FEWEST_MACHINES ≤ length result.now }
+        ensures most { length result.now ≤ MOST_MACHINES }
     {
         self.sources.as_slice()
     }
@@ -82,19 +81,19 @@ impl Setup {
         self.script
     }
 
-    /// The budget of every vector: that of the setup, or 4,000,000 where it gives none.
+    /// The budget of every vector: that of the setup, or `USUAL_BUDGET` where it gives none.
     pub fn budget(&self) -> u32
-        ensures budget { result ≡ unwrap_or self.now.budget 4000000 }
+        ensures budget { result ≡ unwrap_or self.now.budget USUAL_BUDGET }
         ensures some { 1 ≤ result }
     {
-        self.budget.unwrap_or(USUAL_BUDGET)
+        self.budget.unwrap_or(limits::USUAL_BUDGET)
     }
 
-    /// Who gets turns, in order: at most 10,000,000 turns, each of a machine that is there.
+    /// Who gets turns, in order: at most `MOST_TURNS`, each of a machine that is there.
     pub fn schedule(&self) -> &[Turns]
         ensures turns { result.now ≡ self.now.schedule }
         ensures each { All (AreTurns (length self.now.sources)) result.now }
-        ensures few { turns_in result.now ≤ 10000000 }
+        ensures few { turns_in result.now ≤ MOST_TURNS }
     {
         self.schedule.as_slice()
     }
@@ -117,11 +116,11 @@ pub enum SetupKind {
     ManyMachines,
     /// A `turn` of a machine that no earlier line gives.
     NoMachine,
-    /// With this line there are more than 10,000,000 turns.
+    /// With this line there are more than `MOST_TURNS` turns.
     ManyTurns,
     /// No line is faulty, and there are fewer than two machines.
     FewMachines,
-    /// The setup has more than 4,194,304 bytes.
+    /// The setup has more than `TEXT_LIMIT` bytes.
     LongSetup,
 }
 

@@ -8,17 +8,9 @@ ghost use Rattle.setup_lines.specs.declared.setup_line.SetupLine.TheVariants.{Tu
 
 use crate::keyword::{Keyword, rows};
 use crate::setup::{SetupKind, Turns};
-use text_lines::{begins_with, first_word, keyword_line, number_within};
+use text_lines::{first_word, keyword_of, number_within};
 use uxn_io_traits::Path;
-
-/// The greatest number of a machine.
-const LAST_MACHINE: u64 = 8;
-
-/// The greatest budget of a vector.
-const GREATEST_BUDGET: u64 = 4_294_967_295;
-
-/// The most turns of one line.
-const MOST_AT_ONCE: u64 = 1_000_000;
+use uxn_limits::limits;
 
 /// What a line of a setup gives.
 #[derive(Clone, Copy)]
@@ -39,18 +31,12 @@ pub(crate) fn setup_line_of(line: &[u8]) -> Result<Option<SetupLine>, SetupKind>
     ensures line { result ≡ setup_line_of (words_of line.now) }
     ensures limits { IfOk result (λ given. IfSome given IsWithin) }
 {
-    let Some((name, values)) = first_word(line) else {
-        return Ok(None);
-    };
-    if begins_with(b'#', name) {
-        return Ok(None);
-    }
-    match keyword_line(rows(), name, values) {
-        Ok(keyword) => match setup_of_values(keyword, values) {
-            Some(given) => Ok(Some(given)),
-            None => Err(SetupKind::BadValue),
-        },
-        Err(fault) => Err(SetupKind::from(fault)),
+    match keyword_of(rows(), line)? {
+        Some((keyword, values)) => {
+            let given = setup_of_values(keyword, values).ok_or(SetupKind::BadValue)?;
+            Ok(Some(given))
+        }
+        None => Ok(None),
     }
 }
 
@@ -65,7 +51,7 @@ fn setup_of_values(keyword: Keyword, values: &[u8]) -> Option<SetupLine>
         Keyword::Machine => Some(SetupLine::Machine(Path::read(word).ok()?)),
         Keyword::Script => Some(SetupLine::Script(Path::read(word).ok()?)),
         Keyword::Budget => {
-            let budget = number_within(1, GREATEST_BUDGET, word)?;
+            let budget = number_within(1, limits::GREATEST_BUDGET, word)?;
             Some(SetupLine::Budget(budget as u32))
         }
         Keyword::Turn => {
@@ -80,7 +66,7 @@ fn turns_of(machine: &[u8], count: &[u8]) -> Option<Turns>
     ensures turns { result ≡ turns_of machine.now count.now }
     ensures limits { IfSome result (λ turns. IsWithin (Turn turns)) }
 {
-    let machine = number_within(1, LAST_MACHINE, machine)? as u8;
-    let count = number_within(1, MOST_AT_ONCE, count)? as u32;
+    let machine = number_within(1, limits::MOST_MACHINES as u64, machine)? as u8;
+    let count = number_within(1, limits::TURNS_OF_LINE, count)? as u32;
     Some(Turns { machine, count })
 }

@@ -9,7 +9,8 @@ use Rattle.uxn_inquiry.specs.Inquiry.{Answer, and_then}
 use Rattle.uxn_inquiry.specs.InquiryLaws.{always-mapped, always-said, always-through}
 use Rattle.tal_words.specs.declared.span.Word.{Word}
 use Rattle.tal_words.specs.declared.fault.Fault.{Fault}
-use Rattle.tal_words.specs.Comments.{source_limit, words_of, word_fault}
+use Rattle.uxn_limits.specs.declared.limits.TheConstants.{TEXT_LIMIT, INCLUDE_DEPTH}
+use Rattle.tal_words.specs.Comments.{words_of, word_fault}
 use Rattle.tal_words.specs.PlainTexts.{Chunk}
 use Rattle.tal_words.specs.Source.{word_text}
 use Rattle.tal_words.proofs.PlainTokens.{text_of_chunks, AreChunks}
@@ -20,7 +21,7 @@ use Rattle.tal_include.specs.declared.spliced.Place.{Place}
 use Rattle.tal_include.specs.Flat.{Flat, empty_flat, flat_with_word, flat_with_path, place_in_list, origin_at, origin_of}
 use Rattle.tal_include.specs.Includes.{is_include, included_path, path_or_kind, bytes_or_kind, include_fault_at}
 use Rattle.tal_include.specs.Splice.{Walk, found_at, words_by, is_long_with, at_plain_word, at_include, at_word, through_words, through_file}
-use Rattle.tal_include.specs.Splice.{has_includes, most_deep, splice_inquiry, walk}
+use Rattle.tal_include.specs.Splice.{has_includes, splice_inquiry, walk}
 use Rattle.tal_include.specs.FlatWords.{HasItsWords}
 use Rattle.tal_include.proofs.ChunkLemmas.{starts, IsSpoken, starts_of_tokens, words_are_tokens, chunks_faultless}
 use Rattle.tal_include.proofs.SpokenLemmas.{line_of, IsSound, IsSoundWord, words_sound}
@@ -36,7 +37,7 @@ pub record IsFlat (has : Bool) (flat : Flat) : Type 0 where
   pub text : flat.text ≡ text_of_chunks (lines_of texts)
   pub places : map (λ (p : Place). p.at) flat.places ≡ starts 0 (lines_of texts)
   pub includes : flat.includes ≡ has
-  pub short : has ≡ true → length flat.text ≤ source_limit
+  pub short : has ≡ true → length flat.text ≤ TEXT_LIMIT
 
 text_more : (texts : List (List ℕ)) (text : List ℕ) → text_of_chunks (lines_of (texts ++ text ∷ [])) ≡ text_of_chunks (lines_of texts) ++ text ++ 10 ∷ []
 text_more [] text = append-nil (text ++ 10 ∷ [])
@@ -77,7 +78,7 @@ module _ (includes : Bool) where
         omega (arith, one, both, fits);
   }
     where
-      within : (b : Bool) (n : ℕ) → b ≡ true → (b && nat_lt source_limit n) ≡ false → n ≤ source_limit
+      within : (b : Bool) (n : ℕ) → b ≡ true → (b && nat_lt TEXT_LIMIT n) ≡ false → n ≤ TEXT_LIMIT
       within b n is none = grind (arith, is, none)
 
   with_file : (flat : Flat) (path : List ℕ) → IsFlat includes flat → IsFlat includes (flat_with_path path flat)
@@ -187,7 +188,7 @@ has_its_words source flat is =
       origins = all_placed flat [] (words_of flat.text) begin;
       faultless = λ short.
           ap word_fault is.text
-          ∙ chunks_faultless (lines_of is.texts) are.0 are.1 (subst (λ (t : List ℕ). length t ≤ source_limit) is.text short);
+          ∙ chunks_faultless (lines_of is.texts) are.0 are.1 (subst (λ (t : List ℕ). length t ≤ TEXT_LIMIT) is.text short);
       short = is.short;
     }
 
@@ -196,7 +197,7 @@ pub spliced_words : (main source : List ℕ) → Always (λ answer. IfOk answer 
 unfolding splice_inquiry
 spliced_words main source =
     always-mapped _ _ (splice_inquiry main source) by
-    (file_flat (has_includes source) most_deep (walk most_deep) (walk_flat (has_includes source) most_deep) main source (empty_flat main (has_includes source))
+    (file_flat (has_includes source) INCLUDE_DEPTH (walk INCLUDE_DEPTH) (walk_flat (has_includes source) INCLUDE_DEPTH) main source (empty_flat main (has_includes source))
     (record { texts = []; sound = tt; text = refl; places = refl; includes = refl; short = λ includes. omega arith }))
   where
     by : (answer : Result Flat IncludeFault) → IfOk answer (IsFlat (has_includes source)) → IfOk answer (HasItsWords source)

@@ -1,5 +1,5 @@
 -- What the words of a source without a fault of words are.
-use Rattle.std.proofs.Common.{◌≡◌, ℕ, zero, suc, ◌+◌, ◌-◌, ◌<◌, ◌≤◌, Bool, true, false, not, List, [], ◌∷◌, ◌++◌, length, get_or, take, drop, refl, sym, subst, arith, Option, Some, None}
+use Rattle.std.proofs.Common.{◌≡◌, ℕ, suc, ◌+◌, ◌-◌, ◌<◌, Bool, true, false, not, List, [], ◌∷◌, ◌++◌, length, get_or, take, drop, refl, sym, arith, Option, Some, None}
 use Rattle.std.specs.Prelude.{if◌then◌else◌, ◌&&◌, nat_lt}
 use Rattle.std.specs.List.{prefix_len, AllByRecursion}
 use Rattle.std.proofs.lemmas.List.{drop_more}
@@ -9,10 +9,11 @@ use Rattle.tal_words.specs.declared.fault.FaultKind.{FaultKind}
 use Rattle.tal_words.specs.declared.fault.FaultKind.TheVariants.{OpenComment, LongWord, StrayParen}
 use Rattle.tal_words.specs.Faults.{when, least, phase_fault, fault_or}
 use Rattle.tal_words.specs.Order.{each, collected}
-use Rattle.tal_words.specs.Comments.{is_word, opens_comment, closed_comment, validated_token, word_given, words_of, word_fault, source_limit}
+use Rattle.uxn_limits.specs.declared.limits.TheConstants.{TEXT_LIMIT}
+use Rattle.tal_words.specs.Comments.{is_word, validated_token, word_given, words_of, word_fault}
 use Rattle.tal_words.specs.PlainTexts.{Chunk}
-use Rattle.tal_words.specs.Source.{is_blank, word_text, run_length, is_after_blank, begins_token, token_at, tokens_below, tokens_of}
-use Rattle.tal_words.proofs.BlankFree.{all_joined, words_free}
+use Rattle.tal_words.specs.Source.{is_blank, word_text, run_length, is_after_blank, begins_token, token_at, tokens_of}
+use Rattle.tal_words.proofs.BlankFree.{all_joined, words_all, words_free}
 use Rattle.tal_words.proofs.PlainTokens.{IsChunk}
 use Rattle.tal_include.proofs.ChunkLemmas.{IsSpoken}
 
@@ -25,24 +26,14 @@ pub record IsSound (text : List ℕ) : Type 0 where
   pub chunk : IsChunk (line_of text)
   pub spoken : IsSpoken text
 
-none_of : (kind : FaultKind) (kinds : List FaultKind) (word : Word) (later : Option Fault) → fault_or word (least (kind ∷ kinds)) later ≡ None → ⊥
-none_of kind kinds word later is =
-    let P : Option Fault → Type 0 = λ o. elim o [ None ↦ ⊥ | Some _ ↦ Unit {0} ] in
-    subst P is tt
-
 pub no_kinds : (kinds : List FaultKind) (word : Word) (later : Option Fault) → fault_or word (least kinds) later ≡ None → (kinds ≡ []) × (later ≡ None)
 no_kinds [] word later is = (refl, is)
-no_kinds (kind ∷ kinds) word later is = absurd (none_of kind kinds word later is)
-
-no_cons : (kind : FaultKind) (kinds : List FaultKind) → kind ∷ kinds ≡ [] → ⊥
-no_cons kind kinds is =
-    let P : List FaultKind → Type 0 = λ ks. elim ks [ [] ↦ ⊥ | _ ∷ _ ↦ Unit {0} ] in
-    subst P is tt
+no_kinds (kind ∷ kinds) word later is = cc is
 
 no_when : (a b c : Bool) → (when a OpenComment ++ when b LongWord ++ when c StrayParen) ≡ [] → (b ≡ false) × (c ≡ false)
-no_when true b c is = absurd (no_cons OpenComment (when b LongWord ++ when c StrayParen) is)
-no_when false true c is = absurd (no_cons LongWord (when c StrayParen) is)
-no_when false false true is = absurd (no_cons StrayParen [] is)
+no_when true b c is = cc is
+no_when false true c is = cc is
+no_when false false true is = cc is
 no_when false false false is = (refl, refl)
 
 module _ (source : List ℕ) where
@@ -92,38 +83,16 @@ module _ (source : List ℕ) where
       both true true is = sym is
       both false true is = sym is
 
-  tokens_long : (at : ℕ) → at ≤ length source → AllByRecursion IsLong (tokens_below source at)
-  unfolding tokens_below
-  tokens_long zero within = tt
-  tokens_long (suc at) within =
-      all_joined IsLong (tokens_below source at) (if begins_token source at then token_at source at ∷ [] else []) (tokens_long at (omega (arith, within)))
-      (by (begins_token source at) refl)
-    where
-      by : (b : Bool) → begins_token source at ≡ b → AllByRecursion IsLong (if b then token_at source at ∷ [] else [])
-      by true is = (token_long at (omega (arith, within)) is, tt)
-      by false is = tt
-
-  given_long : (before tokens : List Word) → AllByRecursion IsLong tokens → AllByRecursion IsLong (collected (word_given source) before tokens)
-  given_long before [] all = tt
-  given_long before (token ∷ tokens) all =
-      all_joined IsLong (word_given source before token tokens) (collected (word_given source) (before ++ token ∷ []) tokens)
-      (by (is_word source before token) all.0) (given_long (before ++ token ∷ []) tokens all.1)
-    where
-      by : (b : Bool) → IsLong token → AllByRecursion IsLong (if b then token ∷ [] else [])
-      by true long = (long, tt)
-      by false long = tt
-
   words_long : AllByRecursion IsLong (words_of source)
-  unfolding words_of tokens_of
-  words_long = given_long [] (tokens_below source (length source)) (tokens_long (length source) (omega arith))
+  words_long = words_all (λ text. 0 < length text) source token_long
 
   words_spoken : word_fault source ≡ None → AllByRecursion IsSpokenWord (words_of source)
   unfolding words_of word_fault
-  words_spoken none = by (nat_lt source_limit (length source)) none
+  words_spoken none = by (nat_lt TEXT_LIMIT (length source)) none
     where
       by : (b : Bool) → (if b then Some Rattle.tal_words.specs.Comments.long_source else phase_fault (each (validated_token source) [] (tokens_of source))) ≡ None
           → AllByRecursion IsSpokenWord (collected (word_given source) [] (tokens_of source))
-      by true is = absurd (let P : Option Fault → Type 0 = λ o. elim o [ None ↦ ⊥ | Some _ ↦ Unit {0} ] in subst P is tt)
+      by true is = cc is
       by false is = given_all [] (tokens_of source) is
 
   abbrev pub IsSoundWord : Word → Type 0

@@ -1,6 +1,5 @@
 -- How a walk goes on.
-use Rattle.std.proofs.Common.{◌≡◌, ℕ, zero, suc, ◌+◌, ◌-◌, ◌<◌, ◌≤◌, List, length, take, drop, get_or, Result, Ok, Err, None, ◌∙◌, true, false, refl, ap, sym, subst, arith}
-use Rattle.std.proofs.lemmas.List.{take_all}
+use Rattle.std.proofs.Common.{◌≡◌, ℕ, zero, suc, ◌+◌, ◌-◌, ◌<◌, List, length, drop, get_or, Result, Ok, Err, None, ◌∙◌, true, false, refl, ap, sym, subst, arith}
 use Rattle.std.specs.List.{list_any}
 use Rattle.uxn_io_traits.specs.State.{TreeState}
 use Rattle.uxn_io_traits.specs.declared.trees.FileBytes.{FileBytes}
@@ -12,15 +11,13 @@ use Rattle.uxn_inquiry.specs.Leads.{Leads, Here}
 use Rattle.uxn_inquiry.specs.Laws.{leads-more, leads-end, leads-stop, leads-step, leads-refused, leads-no-memory, inquires-said, through-more, through-stop}
 use Rattle.tal_words.specs.declared.span.Word.{Word}
 use Rattle.tal_words.specs.Source.{word_text}
-use Rattle.tal_words.specs.Comments.{source_limit, words_of, word_fault}
+use Rattle.uxn_limits.specs.declared.limits.TheConstants.{TEXT_LIMIT, INCLUDE_DEPTH}
+use Rattle.tal_words.specs.Comments.{words_of, word_fault}
 use Rattle.tal_include.specs.declared.faults.Origin.{Origin}
 use Rattle.tal_include.specs.declared.faults.IncludeFault.{IncludeFault}
 use Rattle.tal_include.specs.Flat.{Flat, empty_flat, flat_with_path}
 use Rattle.tal_include.specs.Includes.{is_include, included_path, path_or_kind, bytes_or_kind}
-use Rattle.tal_include.specs.Splice.{Walk, found_at, words_in, at_plain_word, at_include, at_word, through_words, through_file, walk, has_includes, most_deep, splice_inquiry}
-
-pub take_whole : (most : ℕ) (text : List ℕ) → length text ≤ most → take most text ≡ text
-take_whole most text short = take_all most text short
+use Rattle.tal_include.specs.Splice.{Walk, found_at, words_in, at_plain_word, at_include, at_word, through_words, through_file, walk, has_includes, splice_inquiry}
 
 walk-is : (deeper : ℕ) (path source : List ℕ) (flat : Flat) → 0 < deeper
     → walk deeper path source flat ≡ through_file (deeper - 1) (walk (deeper - 1)) path source flat
@@ -44,7 +41,7 @@ module _ (deeper : ℕ) (origin : Origin) (text : List ℕ) (flat : Flat) (view 
   with_file path file = and_then (Answer (found_at origin text (bytes_or_kind file))) (with_bytes path)
 
   abbrev with_path : List ℕ → Walk
-  with_path path = and_then (file_of path source_limit) (with_file path)
+  with_path path = and_then (file_of path TEXT_LIMIT) (with_file path)
 
   pub no-path : (halt : Halt IncludeFault) → Says (λ (path : List ℕ). path) named (Err halt) → Inquires view whole a a (Err halt)
   no-path halt is = leads-refused (λ (path : List ℕ). path) view whole named with_path a a halt Here is
@@ -53,14 +50,14 @@ module _ (deeper : ℕ) (origin : Origin) (text : List ℕ) (flat : Flat) (view 
     at-path : Leads whole (with_path path) a a
     at-path = leads-step whole named with_path a a path Here is_named
 
-    pub no-file : (halt : Halt IncludeFault) → Inquires (λ (file : FileBytes). file) (file_of path source_limit) a b (Err halt)
+    pub no-file : (halt : Halt IncludeFault) → Inquires (λ (file : FileBytes). file) (file_of path TEXT_LIMIT) a b (Err halt)
         → Inquires view whole a b (Err halt)
     no-file halt p =
-        leads-stop (λ (file : FileBytes). file) view whole (file_of path source_limit) (with_file path) a a b halt at-path p
+        leads-stop (λ (file : FileBytes). file) view whole (file_of path TEXT_LIMIT) (with_file path) a a b halt at-path p
 
-    module _ (file : FileBytes) (read : Inquires {E = IncludeFault} (λ (file : FileBytes). file) (file_of path source_limit) a b (Ok file)) where
+    module _ (file : FileBytes) (read : Inquires {E = IncludeFault} (λ (file : FileBytes). file) (file_of path TEXT_LIMIT) a b (Ok file)) where
       at-file : Leads whole (with_file path file) a b
-      at-file = leads-more (λ (file : FileBytes). file) whole (file_of path source_limit) (with_file path) a a b file at-path read
+      at-file = leads-more (λ (file : FileBytes). file) whole (file_of path TEXT_LIMIT) (with_file path) a a b file at-path read
 
       pub no-bytes : {C : Type 0} (shown : C → List ℕ) (halt : Halt IncludeFault)
           → Says shown (found_at origin text (bytes_or_kind file)) (Err halt)
@@ -152,11 +149,11 @@ module _ (whole : Walk) (deeper : ℕ) (path source text : List ℕ) (words : Li
 pub source-words : {D : Type 0} (view : D → Flat) (main source : List ℕ) (words : List Word) (flat : Flat) (a b : TreeState)
     (r : Result D (Halt IncludeFault)) → word_fault source ≡ None → words ≡ words_of source
     → flat ≡ empty_flat main (list_any (λ word. is_include (word_text source word)) words)
-    → Inquires view (through_words most_deep (walk most_deep) main source flat words) a b r
+    → Inquires view (through_words INCLUDE_DEPTH (walk INCLUDE_DEPTH) main source flat words) a b r
     → Inquires view (splice_inquiry main source) a b r
 unfolding splice_inquiry
 source-words view main source words flat a b r none are is p =
-    let through : List Word → Flat → Walk = λ list now. through_words most_deep (walk most_deep) main source now list in
+    let through : List Word → Flat → Walk = λ list now. through_words INCLUDE_DEPTH (walk INCLUDE_DEPTH) main source now list in
     let start : Flat = empty_flat main (has_includes source) in
     let same : flat ≡ start = is ∙ ap (λ list. empty_flat main (list_any (λ word. is_include (word_text source word)) list)) are in
     rw none (subst (λ list. Inquires view (through list start) a b r) are (subst (λ now. Inquires view (through words now) a b r) same p))

@@ -1,6 +1,7 @@
 -- Include words, the paths that they name, and faults of includes (profile).
 use Rattle.std.specs.Prelude.{ℕ, zero, suc, Bool, false, ◌==◌, nat_le, if◌then◌else◌, List, [], ◌∷◌, codes, drop, take}
 use Rattle.std.specs.Prelude.{Option, Some, None, Result, Ok, Err}
+use Rattle.uxn_limits.specs.declared.limits.TheConstants.{WORD_LIMIT, INCLUDED_FILES}
 use Rattle.uxn_io_traits.specs.PathText.{path_of, parent_of, joined}
 use Rattle.uxn_io_traits.specs.declared.paths.PathFault.{PathFault}
 use Rattle.uxn_io_traits.specs.declared.trees.FileBytes.{FileBytes}
@@ -38,16 +39,12 @@ path_in (Some folder) (Ok path) = joined folder path
 abbrev pub included_path : List ℕ → List ℕ → Option (List ℕ)
 included_path main word = path_in (parent_of main) (path_of (drop 1 word))
 
--- how many files are included at most in one source
-abbrev pub most_files : ℕ
-most_files = 256
-
 -- the path of the file to be read, or what is wrong, where files may be included so many deep in this one, and so many were
 -- included before
 abbrev pub path_or_kind : ℕ → ℕ → Option (List ℕ) → Result (List ℕ) IncludeKind
 path_or_kind deeper before None = Err BadPath
 path_or_kind zero before (Some path) = Err Deep
-path_or_kind (suc deeper) before (Some path) = if nat_le most_files before then Err Many else Ok path
+path_or_kind (suc deeper) before (Some path) = if nat_le INCLUDED_FILES before then Err Many else Ok path
 
 -- the bytes of a file that was read, or what is wrong
 abbrev pub bytes_or_kind : FileBytes → Result (List ℕ) IncludeKind
@@ -57,7 +54,7 @@ bytes_or_kind (Found found) = Ok found.list
 
 -- the prefix of a word that is kept with a fault
 unfoldable pub word_prefix : List ℕ → List ℕ
-word_prefix word = take 255 word
+word_prefix word = take WORD_LIMIT word
 
 -- a fault of this kind at a word
 abbrev pub include_fault_at : Origin → IncludeKind → List ℕ → IncludeFault

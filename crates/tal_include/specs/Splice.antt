@@ -2,11 +2,12 @@
 use Rattle.std.specs.Prelude.{ℕ, zero, suc, ◌+◌, Bool, ◌&&◌, nat_lt, if◌then◌else◌, List, length, is_none}
 use Rattle.std.specs.Prelude.{Option, Some, None, Result, Ok, Err}
 use Rattle.std.specs.List.{list_any}
+use Rattle.uxn_limits.specs.declared.limits.TheConstants.{INCLUDE_DEPTH, TEXT_LIMIT}
 use Rattle.uxn_inquiry.specs.Inquiry.{Inquiry, Answer, and_then, through, result_as, file_of}
 use Rattle.tal_words.specs.declared.span.Word.{Word}
 use Rattle.tal_words.specs.declared.fault.Fault.{Fault}
 use Rattle.tal_words.specs.Source.{word_text}
-use Rattle.tal_words.specs.Comments.{source_limit, words_of, word_fault}
+use Rattle.tal_words.specs.Comments.{words_of, word_fault}
 use Rattle.tal_include.specs.declared.faults.Origin.{Origin}
 use Rattle.tal_include.specs.declared.faults.IncludeFault.{IncludeFault}
 use Rattle.tal_include.specs.declared.faults.IncludeKind.{IncludeKind}
@@ -32,7 +33,7 @@ words_in path source = words_by path source (word_fault source)
 
 -- the flat text of a source with includes is too long with this word and its newline
 abbrev pub is_long_with : Flat → List ℕ → Bool
-is_long_with flat word = flat.includes && nat_lt source_limit (length flat.text + length word + 1)
+is_long_with flat word = flat.includes && nat_lt TEXT_LIMIT (length flat.text + length word + 1)
 
 -- at a word that includes no file
 abbrev pub at_plain_word : ℕ → Origin → Word → List ℕ → Flat → Result Flat IncludeFault
@@ -43,7 +44,7 @@ at_plain_word file origin word text flat =
 abbrev pub at_include : ℕ → (List ℕ → List ℕ → Flat → Walk) → Origin → List ℕ → Flat → Walk
 at_include deeper inner origin text flat =
     and_then (Answer (found_at origin text (path_or_kind deeper (length flat.paths) (included_path flat.main text)))) (λ path.
-    and_then (file_of path source_limit) (λ file.
+    and_then (file_of path TEXT_LIMIT) (λ file.
     and_then (Answer (found_at origin text (bytes_or_kind file))) (λ bytes. inner path bytes (flat_with_path path flat))))
 
 module _ (deeper : ℕ) (inner : List ℕ → List ℕ → Flat → Walk) where
@@ -75,10 +76,6 @@ has_includes source = list_any (λ word. is_include (word_text source word)) (wo
 abbrev pub is_spliced : List ℕ → Bool
 is_spliced source = is_none (word_fault source) && has_includes source
 
--- how many deep files may be included in the main source
-abbrev pub most_deep : ℕ
-most_deep = 15
-
 -- what is asked of the tree where a source is spliced, and the flat text, or the first fault
 unfoldable pub splice_inquiry : List ℕ → List ℕ → Walk
-splice_inquiry main source = through_file most_deep (walk most_deep) main source (empty_flat main (has_includes source))
+splice_inquiry main source = through_file INCLUDE_DEPTH (walk INCLUDE_DEPTH) main source (empty_flat main (has_includes source))

@@ -7,6 +7,7 @@ use arrayvec::ArrayVec;
 use tal_words::FaultKind;
 use uxn_inquiry::Halt;
 use uxn_io_traits::Path;
+use uxn_limits::limits::WORD_LIMIT;
 
 /// Where a word stands: in which file, and at which line and column of it.
 #[derive(Clone, Copy, Debug, PartialEq, Eq)]
@@ -25,13 +26,13 @@ pub enum IncludeKind {
     BadPath,
     /// No file is there.
     Missing,
-    /// The file has more than 4,194,304 bytes.
+    /// The file has more than `TEXT_LIMIT` bytes.
     Long,
-    /// The file would be included more than 15 deep.
+    /// The file would be included more than `INCLUDE_DEPTH` deep.
     Deep,
-    /// 256 files were included before.
+    /// `INCLUDED_FILES` files were included before.
     Many,
-    /// The flat text has more than 4,194,304 bytes.
+    /// The flat text has more than `TEXT_LIMIT` bytes.
     LongFlat,
 }
 
@@ -52,12 +53,12 @@ impl IncludeKind {
     }
 }
 
-/// A fault: where the faulty word stands, what is wrong, and the first 255 bytes of the word.
+/// A fault: where the faulty word stands, what is wrong, and the first `WORD_LIMIT` bytes of the word.
 #[derive(Debug, Drop)]
 pub struct IncludeFault {
     pub origin: Origin,
     pub kind: IncludeKind,
-    pub word: ArrayVec<u8, 255>,
+    pub word: ArrayVec<u8, WORD_LIMIT>,
 }
 
 impl IncludeFault {
@@ -73,17 +74,17 @@ impl IncludeFault {
     }
 }
 
-/// The first 255 bytes of a word, or all of them.
+/// The first `WORD_LIMIT` bytes of a word, or all of them.
 #[tactic(auto, unfolding(crate::specs::Includes::word_prefix))]
 fn word_prefix(word: &[u8]) -> &[u8]
     ensures prefix { result.now ≡ word_prefix word.now }
-    ensures short { length result.now ≤ 255 }
+    ensures short { length result.now ≤ WORD_LIMIT }
 {
-    prefix(word, 255)
+    prefix(word, WORD_LIMIT)
 }
 
 /// So many bytes of a text, or all of them.
-#[tactic(auto, using(crate::proofs::WalkLemmas::take_whole))]
+#[tactic(auto, using(std::proofs::lemmas::List::take_all))]
 fn prefix(text: &[u8], most: usize) -> &[u8]
     ensures prefix { result.now ≡ take most text.now }
     ensures short { length result.now ≤ most }
@@ -96,8 +97,8 @@ fn prefix(text: &[u8], most: usize) -> &[u8]
 }
 
 /// A copy of a text that is not too long.
-fn copied(text: &[u8]) -> ArrayVec<u8, 255>
-    requires { length text.now ≤ 255 }
+fn copied(text: &[u8]) -> ArrayVec<u8, WORD_LIMIT>
+    requires { length text.now ≤ WORD_LIMIT }
     ensures { result.items ≡ text.now }
 {
     let mut copy = ArrayVec::new();

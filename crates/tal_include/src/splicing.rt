@@ -13,18 +13,10 @@ ghost use Rattle.tal_include.specs.Splice.{is_long_with, found_at, words_in, at_
 use crate::faults::{IncludeFault, IncludeKind, Origin, SpliceStop};
 use crate::spliced::Spliced;
 use std::alloc::{AllocError, Global};
-use tal_words::{AsmStop, SOURCE_LIMIT, Word, fault_word, words};
+use tal_words::{AsmStop, Word, fault_word, words};
 use uxn_inquiry::read_whole;
 use uxn_io_traits::{Bytes, FileBytes, Path, Tree};
-
-/// The greatest length of a file, in bytes.
-const FILE_LIMIT: u32 = 4_194_304;
-
-/// How many files are included at most.
-const MOST_FILES: usize = 256;
-
-/// How many deep files are included at most.
-const MOST_DEEP: u32 = 15;
+use uxn_limits::limits;
 
 /// Puts the words of the files that a source includes in place of the words that include them. The path
 /// of a file is read behind the folder of the main source. Refused with the first fault on the way through
@@ -54,7 +46,7 @@ pub fn splice_words<T: Tree>(
     ensures { Inquires (λ flat. flat) (splice_inquiry main.now source.now) (T.state tree.old) (T.state tree.new) result }
 {
     let mut flat = Spliced::new(alloc, main, has_include(source, words));
-    flat.add_words(alloc, tree, main, source, words, MOST_DEEP)?;
+    flat.add_words(alloc, tree, main, source, words, limits::INCLUDE_DEPTH)?;
     Ok(flat)
 }
 
@@ -198,7 +190,7 @@ impl Spliced {
             (T.state tree.old) (T.state tree.new) result }
     {
         let path = self.path_at(origin, text, deeper)?;
-        let file = read_whole(alloc, tree, &path, FILE_LIMIT)?;
+        let file = read_whole(alloc, tree, &path, limits::TEXT_LIMIT as u32)?;
         let bytes = bytes_at(origin, text, file)?;
         let words = words_in(alloc, &path, bytes.as_slice())?;
         self.add_path(&path)?;
@@ -217,7 +209,7 @@ impl Spliced {
             Some(path) => {
                 if deeper == 0 {
                     Err(refused(origin, IncludeKind::Deep, word))
-                } else if self.paths().len() >= MOST_FILES {
+                } else if self.paths().len() >= limits::INCLUDED_FILES {
                     Err(refused(origin, IncludeKind::Many, word))
                 } else {
                     Ok(path)
@@ -247,6 +239,6 @@ impl Spliced {
     fn is_long_with(&self, text: &[u8]) -> bool
         ensures { result ≡ is_long_with self.now text.now }
     {
-        self.includes() && self.text().len() + text.len() + 1 > SOURCE_LIMIT
+        self.includes() && self.text().len() + text.len() + 1 > limits::TEXT_LIMIT
     }
 }

@@ -1,23 +1,12 @@
 -- Words that are added one by one: their faults, and what is kept of them.
-use Rattle.std.proofs.Common.{◌≡◌, ℕ, ◌+◌, ◌<◌, Bool, true, false, not, List, [], ◌∷◌, ◌++◌, length, take, drop, get_or, Option, Some, None, Ok, Result, cond, ◌&&◌, refl, sym, ◌∙◌, ap, arith}
+use Rattle.tal_labels.proofs.Common.{◌≡◌, ℕ, ◌+◌, ◌<◌, Bool, true, false, not, List, [], ◌∷◌, ◌++◌, length, take, drop, get_or, Option, Some, None, Ok}
+use Rattle.tal_labels.proofs.Common.{Result, cond, ◌&&◌, refl, sym, ◌∙◌, ap, arith, is_some, Expanded, Fault, FaultKind, Form, least, fault_or}
+use Rattle.tal_labels.proofs.Common.{or_later, phase_fault, form, opens, each, collected, expanded_text, each-step, each-more, no_word, fault-later}
+use Rattle.tal_labels.proofs.Common.{fault-behind, fault-prefix, fault_or-none, shape_kinds, open_count, closing_distance, validated_shape}
+use Rattle.tal_labels.proofs.Common.{shape_fault, validated_place, placing_fault, place_fault, shape_added, adding_kinds, validated_added, added_fault}
+use Rattle.tal_labels.proofs.Common.{open_given, open_ones, next_fault}
 use Rattle.tal_labels.proofs.LayingLemmas.{each-none, has_form, least-none}
-use Rattle.std.specs.Prelude.{is_some}
-use Rattle.tal_words.specs.declared.span.Expanded.{Expanded}
 use Rattle.tal_words.specs.declared.span.Word.{Word}
-use Rattle.tal_words.specs.declared.fault.Fault.{Fault}
-use Rattle.tal_words.specs.declared.fault.FaultKind.{FaultKind}
-use Rattle.tal_words.specs.declared.form.Form.{Form}
-use Rattle.tal_words.specs.Faults.{least, fault_or, or_later, phase_fault}
-use Rattle.tal_words.specs.Forms.{form}
-use Rattle.tal_words.specs.Braces.{opens}
-use Rattle.tal_words.specs.Order.{each, collected}
-use Rattle.tal_words.specs.Source.{expanded_text}
-use Rattle.tal_words.proofs.OrderLemmas.{each-step, each-more, no_word}
-use Rattle.tal_words.proofs.PassLemmas.{fault-later, fault-behind, fault-prefix, fault_or-none}
-use Rattle.tal_labels.specs.Shapes.{shape_kinds, open_count, closing_distance, validated_shape, shape_fault}
-use Rattle.tal_labels.specs.Placing.{validated_place, placing_fault, place_fault}
-use Rattle.tal_labels.specs.Adding.{shape_added, adding_kinds, validated_added, added_fault, open_given, open_ones}
-use Rattle.tal_labels.specs.Placers.{next_fault}
 use Rattle.tal_labels.proofs.CallerLemmas.{place_fault-none}
 
 append-none : (a b : List FaultKind) → least (a ++ b) ≡ None → (a ≡ []) × (b ≡ [])

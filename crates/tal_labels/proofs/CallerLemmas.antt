@@ -1,22 +1,10 @@
 -- What a caller of `place` cites: each word of a layout without a fault.
-use Rattle.std.proofs.Common.{◌≡◌, ℕ, zero, suc, ◌+◌, ◌<◌, ◌≤◌, inl, inr, true, false, List, [], ◌∷◌, ◌++◌, length, take, drop, get_or, None, Ok, refl, arith, append_assoc, append-nil}
-use Rattle.std.specs.Prelude.{is_some, ◌||◌}
-use Rattle.std.specs.List.{list_any}
-use Rattle.std.proofs.Math.Dec.{ltb}
-use Rattle.std.proofs.lemmas.Bool.{ltb-false, lt-ltb, cases_lt}
-use Rattle.std.proofs.lemmas.List.{take_more}
-use Rattle.tal_words.specs.declared.span.Expanded.{Expanded}
-use Rattle.tal_words.specs.declared.form.Form.{Form}
-use Rattle.tal_words.specs.Forms.{form, size}
-use Rattle.tal_labels.specs.declared.placed.PlacedWord.{PlacedWord}
-use Rattle.tal_words.specs.Order.{collected}
-use Rattle.tal_words.specs.Source.{expanded_text}
-use Rattle.tal_labels.specs.Places.{address_after}
-use Rattle.tal_labels.specs.Labels.{defined_name, scope_after, labels_of}
-use Rattle.tal_labels.specs.Shapes.{open_count, closing_distance, validated_shape, shape_fault}
-use Rattle.tal_labels.specs.Placing.{is_mark_form, is_defined, ends_above, validated_place, placing_fault, place_fault, lambda_address, placed_given, placed_of, ends_given, ends_of, LieApart}
-use Rattle.tal_labels.specs.Adding.{open_word}
-use Rattle.tal_words.proofs.OrderLemmas.{no_word}
+use Rattle.tal_labels.proofs.Common.{◌≡◌, ℕ, zero, suc, ◌+◌, ◌<◌, ◌≤◌, inl, inr, true, false, List, [], ◌∷◌, ◌++◌, length, take, drop, get_or, None}
+use Rattle.tal_labels.proofs.Common.{Ok, refl, arith, append_assoc, append-nil, is_some, ◌||◌, list_any, ltb, ltb-false, lt-ltb, cases_lt, take_more}
+use Rattle.tal_labels.proofs.Common.{Expanded, Form, form, size, PlacedWord, collected, expanded_text, address_after, defined_name, scope_after}
+use Rattle.tal_labels.proofs.Common.{labels_of, open_count, closing_distance, validated_shape, shape_fault, is_mark_form, is_defined, ends_above}
+use Rattle.tal_labels.proofs.Common.{validated_place, placing_fault, place_fault, lambda_address, placed_given, placed_of, ends_given, ends_of}
+use Rattle.tal_labels.proofs.Common.{LieApart, open_word, no_word}
 use Rattle.tal_labels.proofs.LayingLemmas.{IsWellPlaced, well_placed, ends_of-append, or_false, each-none, has_form, least-none}
 
 -- where no word has a fault, none has one of its shape or of its place

@@ -1,15 +1,8 @@
-use Rattle.std.proofs.Common.{◌≡◌, ℕ, zero, suc, ◌+◌, ◌<◌, Bool, true, false, List, [], ◌∷◌, length, take, drop, get_or, map, length-take, slice_get, Option, Some, None, cond, inl, inr, ◌&&◌, refl, ◌∙◌, arith, add-one}
-use Rattle.std.specs.Prelude.{◌==◌}
-use Rattle.std.specs.Option.{option_map}
-use Rattle.std.proofs.lemmas.List.{drop_more}
-use Rattle.std.proofs.lemmas.Bool.{eqb-true, ne_eqb, eq-eqb, and_parts, or_cases}
-use Rattle.tal_words.specs.declared.span.Expanded.{Expanded}
-use Rattle.tal_words.specs.Braces.{opens, closes, matching_after, one_if}
-use Rattle.tal_words.specs.Order.{each}
-use Rattle.tal_words.specs.Source.{expanded_text}
-use Rattle.tal_labels.specs.Shapes.{closer_of}
-use Rattle.tal_labels.specs.Answers.{waiting_step}
-use Rattle.tal_words.proofs.OrderLemmas.{each-step}
+use Rattle.tal_labels.proofs.Common.{◌≡◌, ℕ, zero, suc, ◌+◌, ◌<◌, Bool, true, false, List, [], ◌∷◌, length, take, drop, get_or, map, slice_get, Option}
+use Rattle.tal_labels.proofs.Common.{Some, None, cond, inl, inr, ◌&&◌, refl, ◌∙◌, arith, add-one, ◌==◌, option_map, drop_more, eqb-true, ne_eqb}
+use Rattle.tal_labels.proofs.Common.{eq-eqb, and_parts, or_cases, Expanded, opens, closes, matching_after, one_if, each, expanded_text, closer_of}
+use Rattle.tal_labels.proofs.Common.{waiting_step, each-step}
+use Rattle.std.proofs.Common.{length-take}
 
 -- what waits from a word on, where the first word has this index
 abbrev pub waiting_from : List ℕ → ℕ → List Expanded → List ℕ

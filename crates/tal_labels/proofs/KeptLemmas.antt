@@ -1,24 +1,11 @@
 -- What a placer keeps, with one word more.
-use Rattle.std.proofs.Common.{◌≡◌, ℕ, ◌+◌, ◌-◌, ◌^◌, ◌<◌, Bool, true, false, List, [], ◌∷◌, ◌++◌, length, Option, Some, None, Ok, cond, refl, sym, ◌∙◌, ap, arith, length-append, append-nil, inl, inr}
-use Rattle.std.proofs.Math.Seq.{take-append_seam}
-use Rattle.tal_words.proofs.OrderLemmas.{last_of-more}
-use Rattle.std.proofs.Math.Dec.{ltb}
-use Rattle.tal_words.specs.declared.span.Expanded.{Expanded}
-use Rattle.tal_words.specs.declared.fault.FaultKind.{FaultKind}
-use Rattle.tal_words.specs.declared.form.Form.{Form}
-use Rattle.tal_words.specs.Faults.{least, fault_at, fault_or}
-use Rattle.tal_words.specs.Forms.{form, size}
-use Rattle.tal_words.specs.Braces.{opens, closes}
-use Rattle.tal_words.specs.Source.{expanded_text}
-use Rattle.tal_labels.specs.declared.placed.PlacedWord.{PlacedWord}
-use Rattle.tal_labels.specs.Answers.{next_address, next_scope, label_of}
-use Rattle.tal_labels.specs.Places.{address_after}
-use Rattle.tal_labels.specs.Labels.{defined_name}
-use Rattle.tal_labels.specs.Shapes.{shape_kinds}
-use Rattle.tal_labels.specs.Placing.{is_mark_form, is_defined, place_kinds, validated_place, placed_of}
-use Rattle.tal_labels.specs.Adding.{shape_added, added_fault, open_word, open_ones}
+use Rattle.tal_labels.proofs.Common.{◌≡◌, ℕ, ◌+◌, ◌-◌, ◌^◌, ◌<◌, Bool, true, false, List, [], ◌∷◌, ◌++◌, length, Option, Some, None, Ok, cond, refl}
+use Rattle.tal_labels.proofs.Common.{sym, ◌∙◌, ap, arith, length-append, append-nil, inl, inr, take-append_seam, last_of-more, ltb, Expanded}
+use Rattle.tal_labels.proofs.Common.{FaultKind, Form, least, fault_at, fault_or, form, size, opens, closes, expanded_text, PlacedWord, next_address}
+use Rattle.tal_labels.proofs.Common.{next_scope, label_of, address_after, defined_name, shape_kinds, is_mark_form, is_defined, place_kinds}
+use Rattle.tal_labels.proofs.Common.{validated_place, placed_of, shape_added, added_fault, open_word, open_ones, PlacerModel, PlacerIsMaintained}
+use Rattle.tal_labels.proofs.Common.{next_fault, closed_labels, closed_opener, openers_step}
 use Rattle.tal_labels.specs.Scopes.{scope_text}
-use Rattle.tal_labels.specs.Placers.{PlacerModel, PlacerIsMaintained, next_fault, closed_labels, closed_opener, openers_step}
 use Rattle.tal_labels.proofs.ClosingLemmas.{opens-closes}
 use Rattle.tal_labels.proofs.CallerLemmas.{length-placed_of}
 use Rattle.tal_labels.proofs.LayingLemmas.{address_after-more, scope_after-append, labels_of-append, top-append}

@@ -1,20 +1,10 @@
 -- The names of labels are not empty and have no blank in them, where no word has one.
-use Rattle.std.proofs.Common.{◌≡◌, ℕ, zero, suc, ◌<◌, true, not, List, [], ◌∷◌, ◌++◌, length, take, drop, Option, Some, None, Result, Ok, refl, arith, length-append}
-use Rattle.std.specs.Prelude.{◌==◌}
-use Rattle.std.specs.Option.{option_map_or}
-use Rattle.std.specs.List.{prefix_len, AllByRecursion}
-use Rattle.std.proofs.lemmas.List.Folds.{list_any-append}
-use Rattle.tal_words.specs.declared.span.Expanded.{Expanded}
-use Rattle.tal_words.specs.declared.fault.FaultKind.{FaultKind}
-use Rattle.tal_words.specs.declared.form.Form.{Form}
-use Rattle.tal_words.specs.declared.form.Form.TheVariants.{LabelDef, SubDef}
+use Rattle.tal_labels.proofs.Common.{◌≡◌, ℕ, zero, suc, ◌<◌, true, not, List, [], ◌∷◌, ◌++◌, length, take, drop, Option, Some, None, Result, Ok, refl}
+use Rattle.tal_labels.proofs.Common.{arith, length-append, ◌==◌, option_map_or, prefix_len, AllByRecursion, list_any-append, Expanded, FaultKind, Form}
+use Rattle.tal_labels.proofs.Common.{LabelDef, SubDef, expanded_text, first_scope, scope_of, full_name, slash, rune_of, name_fault, form, rune_or_bare}
+use Rattle.tal_labels.proofs.Common.{collected, or_earlier, label_name, defined_name, last_label, scope_after, label_at, labels_given, labels_of}
+use Rattle.tal_labels.proofs.Common.{HasNoBlank, IsNamed, is_mark_form}
 use Rattle.tal_words.specs.declared.form.Rune.{Rune}
-use Rattle.tal_words.specs.Source.{expanded_text}
-use Rattle.tal_words.specs.Names.{first_scope, scope_of, full_name, slash, rune_of, name_fault}
-use Rattle.tal_words.specs.Forms.{form, rune_or_bare}
-use Rattle.tal_words.specs.Order.{collected, or_earlier}
-use Rattle.tal_labels.specs.Labels.{label_name, defined_name, last_label, scope_after, label_at, labels_given, labels_of, HasNoBlank, IsNamed}
-use Rattle.tal_labels.specs.Placing.{is_mark_form}
 use Rattle.tal_words.specs.PlainTexts.{IsBlankFree}
 use Rattle.tal_words.proofs.BlankFree.{all_joined}
 

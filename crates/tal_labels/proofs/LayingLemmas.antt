@@ -1,24 +1,9 @@
-use Rattle.std.proofs.Common.{◌≡◌, ℕ, ◌+◌, ◌<◌, ◌≤◌, Bool, true, false, List, [], ◌∷◌, ◌++◌, length, None, Ok, cond, ◌||◌, refl, ◌∙◌, ap, arith, take, drop, get_or, Err, Result}
-use Rattle.tal_words.specs.declared.fault.FaultKind.{FaultKind}
-use Rattle.tal_labels.specs.Shapes.{shape_kinds}
-use Rattle.tal_words.proofs.PassLemmas.{none-at}
-use Rattle.std.proofs.lemmas.Bool.Decides.{nat_tests}
-use Rattle.std.specs.List.{list_any}
-use Rattle.std.specs.Prelude.{is_some, unwrap_or}
-use Rattle.std.proofs.Math.Dec.{ltb}
-use Rattle.std.proofs.lemmas.List.Folds.{list_any-append}
-use Rattle.tal_words.specs.declared.span.Expanded.{Expanded}
-use Rattle.tal_words.specs.declared.form.Form.{Form}
-use Rattle.tal_words.specs.declared.form.Form.TheVariants.{LabelDef, Pad}
-use Rattle.tal_words.specs.Faults.{least, Validated, phase_fault}
-use Rattle.tal_words.specs.Forms.{form, size}
-use Rattle.tal_words.specs.Order.{each}
-use Rattle.tal_words.specs.Source.{expanded_text}
-use Rattle.tal_labels.specs.Places.{pad_value, moves, moved_since_pad, address_after}
-use Rattle.tal_labels.specs.Labels.{defined_name, scope_after, labels_given, labels_of}
-use Rattle.tal_labels.specs.Placing.{place_kinds, ends_given, ends_of}
-use Rattle.tal_labels.specs.Answers.{next_address, next_scope, label_of}
-use Rattle.tal_words.proofs.OrderLemmas.{collected-more, last_of-more, no_word, get_or-each, length-each}
+use Rattle.tal_labels.proofs.Common.{◌≡◌, ℕ, ◌+◌, ◌<◌, ◌≤◌, Bool, true, false, List, [], ◌∷◌, ◌++◌, length, None, Ok, cond, ◌||◌, refl, ◌∙◌, ap, arith}
+use Rattle.tal_labels.proofs.Common.{take, drop, get_or, Err, Result, FaultKind, shape_kinds, none-at, nat_tests, list_any, is_some, unwrap_or, ltb}
+use Rattle.tal_labels.proofs.Common.{list_any-append, Expanded, Form, LabelDef, Pad, least, Validated, phase_fault, form, size, each, expanded_text}
+use Rattle.tal_labels.proofs.Common.{pad_value, moves, moved_since_pad, address_after, defined_name, scope_after, labels_given, labels_of, place_kinds}
+use Rattle.tal_labels.proofs.Common.{ends_given, ends_of, next_address, next_scope, label_of, collected-more, last_of-more, no_word, get_or-each}
+use Rattle.tal_labels.proofs.Common.{length-each}
 
 -- where no word has a fault of a phase, a word has none
 pub each-none : (validate : List Expanded → Expanded → List Expanded → Validated) (words : List Expanded) → phase_fault (each validate [] words) ≡ None → (k : ℕ) → k < length words

@@ -1,3 +1,4 @@
+pub mod Common
 pub mod ClosingLemmas
 pub mod ShapeLemmas
 pub mod IndexLemmas

@@ -1,26 +1,10 @@
 -- Which openers are open after some words, what one word more closes, and whether an opener has it as its matching brace.
-use Rattle.std.proofs.Common.{◌≡◌, ℕ, suc, get_or, ◌+◌, ◌-◌, ◌<◌, Bool, true, false, not, List, [], ◌∷◌, ◌++◌, length, take, map, slice_get, Option, Some, None, Ok, cond, ◌&&◌, ◌||◌, ◌⊎◌, inl, inr, refl, sym, ◌∙◌, ap, arith, append_assoc, append-nil, length-append}
-use Rattle.std.specs.Prelude.{◌==◌, is_some, fold}
-use Rattle.std.specs.Option.{option_map}
-use Rattle.std.specs.List.{list_any}
-use Rattle.std.proofs.lemmas.Bool.Decides.{nat_tests}
-use Rattle.std.proofs.lemmas.Bool.{ne_eqb, eq-eqb}
-use Rattle.std.proofs.lemmas.List.{map-append, length-map, take-append-le}
-use Rattle.std.proofs.Math.Seq.{take-append_seam}
-use Rattle.tal_words.specs.declared.span.Expanded.{Expanded}
-use Rattle.tal_words.specs.declared.form.Form.{Form}
-use Rattle.tal_words.specs.Forms.{form, size}
-use Rattle.tal_words.specs.Braces.{opens, closes, matching_after, one_if}
-use Rattle.tal_words.specs.Order.{collected, each}
-use Rattle.tal_words.specs.Source.{expanded_text}
-use Rattle.tal_labels.specs.declared.placed.PlacedWord.{PlacedWord}
-use Rattle.tal_labels.specs.Places.{address_after}
-use Rattle.tal_labels.specs.Shapes.{closing_distance, open_after, open_count, is_at, closes_one_of}
-use Rattle.tal_labels.specs.Answers.{waiting_step}
-use Rattle.tal_labels.specs.Placing.{lambda_address, placed_given}
-use Rattle.tal_labels.specs.Adding.{open_word, open_given, open_ones}
-use Rattle.tal_labels.specs.Placers.{closed_at}
-use Rattle.tal_words.proofs.OrderLemmas.{no_word}
+use Rattle.tal_labels.proofs.Common.{◌≡◌, ℕ, suc, get_or, ◌+◌, ◌-◌, ◌<◌, Bool, true, false, not, List, [], ◌∷◌, ◌++◌, length, take, map, slice_get}
+use Rattle.tal_labels.proofs.Common.{Option, Some, None, Ok, cond, ◌&&◌, ◌||◌, ◌⊎◌, inl, inr, refl, sym, ◌∙◌, ap, arith, append_assoc, append-nil}
+use Rattle.tal_labels.proofs.Common.{length-append, ◌==◌, is_some, fold, option_map, list_any, nat_tests, ne_eqb, eq-eqb, map-append, length-map}
+use Rattle.tal_labels.proofs.Common.{take-append-le, take-append_seam, Expanded, Form, form, size, opens, closes, matching_after, one_if, collected}
+use Rattle.tal_labels.proofs.Common.{each, expanded_text, PlacedWord, address_after, closing_distance, open_after, open_count, is_at, closes_one_of}
+use Rattle.tal_labels.proofs.Common.{waiting_step, lambda_address, placed_given, open_word, open_given, open_ones, closed_at, no_word}
 use Rattle.tal_labels.proofs.IndexLemmas.{none_since}
 use Rattle.tal_labels.proofs.ClosingLemmas.{waiting_from, opens-closes, matching-waiting}
 

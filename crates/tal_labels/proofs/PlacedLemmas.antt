@@ -1,8 +1,4 @@
-use Rattle.std.proofs.Common.{◌≡◌, ℕ, true, List, [], ◌∷◌, Ok, ap}
-use Rattle.std.proofs.lemmas.Bool.{eqb-true}
-use Rattle.tal_words.specs.declared.form.Form.TheVariants.{LambdaEnd}
-use Rattle.tal_words.specs.Forms.{form}
-use Rattle.tal_words.specs.Braces.{closes}
+use Rattle.tal_labels.proofs.Common.{◌≡◌, ℕ, true, List, [], ◌∷◌, Ok, ap, eqb-true, LambdaEnd, form, closes}
 
 -- the form of a word that closes a brace
 pub form-closes : (text : List ℕ) → closes text ≡ true → form text ≡ Ok LambdaEnd

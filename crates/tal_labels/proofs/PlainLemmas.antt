@@ -1,22 +1,12 @@
 -- Words that are opcodes, bytes and shorts, one behind the other from the address 0100 on.
-use Rattle.std.proofs.Common.{◌≡◌, ℕ, ◌+◌, ◌<◌, ◌≤◌, true, false, List, [], ◌∷◌, ◌++◌, length, map, None, Ok, refl, ap, ◌∙◌, arith, length-append}
+use Rattle.tal_labels.proofs.Common.{◌≡◌, ℕ, ◌+◌, ◌<◌, ◌≤◌, true, false, List, [], ◌∷◌, ◌++◌, length, map, None, Ok, refl, ap, ◌∙◌, arith}
+use Rattle.tal_labels.proofs.Common.{length-append, nat_tests, if◌then◌else◌, nat_lt, list_any, AllByRecursion, Expanded, Form, Pad, expanded_text}
+use Rattle.tal_labels.proofs.Common.{phase_fault, form, size, encoded, opens, closes, each, pad_value, form_moves, moves, address_after, addresses_of}
+use Rattle.tal_labels.proofs.Common.{defined_name, scope_after, validated_shape, shape_fault, is_mark_form, formed_size, place_kinds, ends_of}
+use Rattle.tal_labels.proofs.Common.{ends_above, validated_place, placing_fault, place_fault}
 use Rattle.tal_labels.proofs.LayingLemmas.{address-more, address_after-more, ends_of-append}
-use Rattle.std.proofs.lemmas.Bool.Decides.{nat_tests}
-use Rattle.std.specs.Prelude.{if◌then◌else◌, nat_lt}
-use Rattle.std.specs.List.{list_any, AllByRecursion}
-use Rattle.tal_words.specs.declared.span.Expanded.{Expanded}
-use Rattle.tal_words.specs.declared.form.Form.{Form}
-use Rattle.tal_words.specs.declared.form.Form.TheVariants.{Pad}
-use Rattle.tal_words.specs.Source.{expanded_text}
-use Rattle.tal_words.specs.Faults.{phase_fault}
-use Rattle.tal_words.specs.Forms.{form, size, encoded}
-use Rattle.tal_words.specs.Braces.{opens, closes}
-use Rattle.tal_words.specs.Order.{each}
-use Rattle.tal_labels.specs.Places.{pad_value, form_moves, moves, address_after, addresses_of}
-use Rattle.tal_labels.specs.Labels.{defined_name, scope_after}
-use Rattle.tal_labels.specs.Shapes.{validated_shape, shape_fault}
+use Rattle.uxn_limits.specs.declared.limits.TheConstants.{BANK_ROM_LIMIT}
 use Rattle.tal_labels.specs.PlainWords.{Coded, texts_of_coded, bytes_of_coded, pad_text, is_bare_form, RepresentsWord, addresses_from}
-use Rattle.tal_labels.specs.Placing.{is_mark_form, formed_size, place_kinds, ends_of, ends_above, validated_place, placing_fault, place_fault}
 
 -- what is known of an opcode, a byte or a short
 pub record IsCoded (word : Coded) : Type 0 where
@@ -128,7 +118,7 @@ module _ (source : List ℕ) where
 
   -- nothing is wrong with their places
   places_sound : (words : List Expanded) (coded : List Coded) (before : List Expanded) (count : ℕ) → Spells words coded → Reaches before count
-      → count + length (bytes_of_coded coded) ≤ 65280 → phase_fault (each (validated_place source) before words) ≡ None
+      → count + length (bytes_of_coded coded) ≤ BANK_ROM_LIMIT → phase_fault (each (validated_place source) before words) ≡ None
   places_sound [] [] before count spells reaches within = refl
   places_sound (word ∷ words) (coded ∷ codeds) before count spells reaches within =
       let is = spells.1 in
@@ -152,7 +142,7 @@ module _ (source : List ℕ) where
     unfolding shape_fault
     no_shape_fault = rw (padded, form-pad) (shapes_sound words coded (first ∷ []) spells)
 
-    pub no_placing_fault : length (bytes_of_coded coded) ≤ 65280 → placing_fault source (first ∷ words) ≡ None
+    pub no_placing_fault : length (bytes_of_coded coded) ≤ BANK_ROM_LIMIT → placing_fault source (first ∷ words) ≡ None
     unfolding placing_fault ends_of address_after
     no_placing_fault within = rw (padded, form-pad) (places_sound words coded (first ∷ []) 0 spells reaches_pad (omega arith))
 
@@ -162,7 +152,7 @@ module _ (source : List ℕ) where
 
 -- the same of any words with these texts
 pub plain_laid : (source : List ℕ) (words : List Expanded) (coded : List Coded) → map (expanded_text source) words ≡ pad_text ∷ texts_of_coded coded → AllByRecursion RepresentsWord coded
-    → (length (bytes_of_coded coded) ≤ 65280 → place_fault source words ≡ None) × (addresses_of source words ≡ 256 ∷ addresses_from 0 coded)
+    → (length (bytes_of_coded coded) ≤ BANK_ROM_LIMIT → place_fault source words ≡ None) × (addresses_of source words ≡ 256 ∷ addresses_from 0 coded)
 unfolding place_fault
 plain_laid source [] coded are all = cc
 plain_laid source (first ∷ rest) coded are all =
@@ -171,5 +161,5 @@ plain_laid source (first ∷ rest) coded are all =
     (λ within. rw (no_shape_fault source first rest coded padded spells, no_placing_fault source first rest coded padded spells within) refl, addresses_pad source first rest coded padded spells)
 
 pub plain_faultless : (source : List ℕ) (words : List Expanded) (coded : List Coded) → map (expanded_text source) words ≡ pad_text ∷ texts_of_coded coded → AllByRecursion RepresentsWord coded
-    → length (bytes_of_coded coded) ≤ 65280 → place_fault source words ≡ None
+    → length (bytes_of_coded coded) ≤ BANK_ROM_LIMIT → place_fault source words ≡ None
 plain_faultless source words coded are all = (plain_laid source words coded are all).0

@@ -1,6 +1,7 @@
 -- Where the words lie (Uxntal syntax reference).
 use Rattle.std.specs.Prelude.{ℕ, ◌+◌, List, [], ◌∷◌, Option, Some, None, is_some, unwrap_or, Result, Ok, Err}
 use Rattle.std.specs.Prelude.{if◌then◌else◌}
+use Rattle.uxn_limits.specs.declared.addresses.TheConstants.{FIRST_ADDRESS}
 use Rattle.tal_words.specs.declared.span.Expanded.{Expanded}
 use Rattle.tal_words.specs.declared.fault.FaultKind.{FaultKind}
 use Rattle.tal_words.specs.declared.form.Form.{Form}
@@ -23,13 +24,6 @@ abbrev pub moves : Result Form FaultKind → List ℕ → ℕ
 moves (Ok shape) text = form_moves shape text
 moves (Err kind) text = 0
 
--- the address of the first word, where no pad says another, and the address after the last one of memory
-abbrev pub first_address : ℕ
-first_address = 256
-
-abbrev pub memory_end : ℕ
-memory_end = 65536
-
 module _ (source : List ℕ) where
   -- the value of the last pad of some words
   abbrev pub last_pad : List Expanded → Option ℕ
@@ -44,7 +38,7 @@ module _ (source : List ℕ) where
 
   -- the address of a word by the words before it: the value of the last pad, and how far the words since then move it
   unfoldable pub address_after : List Expanded → ℕ
-  address_after before = unwrap_or (last_pad before) first_address + moved_since_pad before
+  address_after before = unwrap_or (last_pad before) FIRST_ADDRESS + moved_since_pad before
 
   -- the addresses of words
   unfoldable pub addresses_of : List Expanded → List ℕ

@@ -18,7 +18,8 @@ use Rattle.tal_words.specs.Braces.{opens}
 use Rattle.tal_labels.specs.declared.placed.PlacedWord.{PlacedWord}
 use Rattle.tal_words.specs.Order.{collected, each}
 use Rattle.tal_words.specs.Source.{expanded_text}
-use Rattle.tal_labels.specs.Places.{address_after, first_address, memory_end}
+use Rattle.uxn_limits.specs.declared.addresses.TheConstants.{FIRST_ADDRESS, MEMORY_END}
+use Rattle.tal_labels.specs.Places.{address_after}
 use Rattle.tal_labels.specs.Labels.{defined_name, scope_after, labels_of}
 use Rattle.tal_labels.specs.Shapes.{closing_distance, shape_fault}
 
@@ -48,8 +49,8 @@ is_defined labels (Some name) = list_any (λ label. bytes_eq name label.name) la
 abbrev pub place_kinds : Bool → ℕ → ℕ → Bool → Bool → List FaultKind
 place_kinds twice place length is_mark below =
     when twice LabelTwice
-    ++ when (nat_lt 0 length && nat_lt place first_address) ZeroPage
-    ++ when ((nat_lt 0 length && nat_lt memory_end (place + length)) || (is_mark && nat_le memory_end place)) Outside
+    ++ when (nat_lt 0 length && nat_lt place FIRST_ADDRESS) ZeroPage
+    ++ when ((nat_lt 0 length && nat_lt MEMORY_END (place + length)) || (is_mark && nat_le MEMORY_END place)) Outside
     ++ when (nat_lt 0 length && below) Rewind
 
 module _ (source : List ℕ) where
@@ -115,8 +116,8 @@ module _ (source : List ℕ) where
 pub record LiesInMemory (source : List ℕ) (word : PlacedWord) : Type 0 where
   pub shape : form (expanded_text source word.word) ≡ Ok word.form
   pub sized : word.size ≡ size word.form (expanded_text source word.word)
-  pub start : 0 < word.size → first_address ≤ word.address
-  pub end : 0 < word.size → word.address + word.size ≤ memory_end
+  pub start : 0 < word.size → FIRST_ADDRESS ≤ word.address
+  pub end : 0 < word.size → word.address + word.size ≤ MEMORY_END
 
 -- each word lies in memory, and where it has bytes above the end of each word with bytes before it
 pub record LieApart (source : List ℕ) (words : List PlacedWord) : Type 0 where

@@ -5,7 +5,7 @@ use Rattle.tal_words.specs.declared.form.Form.{Form}
 use Rattle.tal_words.specs.declared.form.Form.TheVariants.{Op, Raw1, Raw2}
 use Rattle.tal_words.specs.Forms.{form, encoded}
 use Rattle.tal_words.specs.PlainTexts.{IsPlainWord}
-use Rattle.tal_labels.specs.Places.{first_address}
+use Rattle.uxn_limits.specs.declared.addresses.TheConstants.{FIRST_ADDRESS}
 
 -- a word: its text, and the bytes that it represents
 pub record Coded : Type 0 where
@@ -40,4 +40,4 @@ pub record RepresentsWord (word : Coded) : Type 0 where
 -- the addresses of such words, with so many bytes before the first
 abbrev pub addresses_from : ℕ → List Coded → List ℕ
 addresses_from count [] = []
-addresses_from count (word ∷ words) = (first_address + count) ∷ addresses_from (count + length word.bytes) words
+addresses_from count (word ∷ words) = (FIRST_ADDRESS + count) ∷ addresses_from (count + length word.bytes) words

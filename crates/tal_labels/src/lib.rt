@@ -14,7 +14,7 @@ mod shapes;
 pub use labels::{FIRST_SCOPE, full_name, names_of_labels_have_no_blank, next_scope};
 pub use placed::{Placed, PlacedWord};
 pub use placer::{Placer, one_word_more_is_placed_behind};
-pub use placing::{FIRST_ADDRESS, MEMORY_END, place};
+pub use placing::place;
 pub use plain::plain_words_stand_one_behind_the_other;
 pub use scope::Scope;
 pub use shapes::strays_match_no_opener;

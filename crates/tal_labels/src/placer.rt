@@ -5,7 +5,7 @@ ghost use Rattle.std.specs.Prelude.{IfOk, IfSome, OnOk, OnErr, OnSome};
 ghost use Rattle.std.specs.Prelude.{◌+◌, ◌-◌, ◌≤◌, ◌&&◌, ◌==◌, not, if◌then◌else◌};
 ghost use Rattle.std.specs.Option.{option_map};
 ghost use Rattle.std.specs.Vec.{vec_len, vec_capacity};
-ghost use Rattle.tal_labels.specs.Places.{memory_end};
+ghost use Rattle.uxn_limits.specs.declared.addresses.TheConstants.{MEMORY_END};
 ghost use Rattle.tal_words.specs.Braces.{opens as opens_brace, closes as closes_brace};
 ghost use Rattle.tal_words.specs.Faults.{least};
 ghost use Rattle.tal_words.specs.Forms.{size as size_of, form as form_of_text};
@@ -22,11 +22,12 @@ ghost use Rattle.tal_labels.specs.Placers.{PlacerIsMaintained, WereAdded, Places
 use crate::label_index::LabelIndex;
 use crate::labels::{define, defined_name, is_defined};
 use crate::placed::{Placed, PlacedWord};
-use crate::placing::{FIRST_ADDRESS, is_mark_form, next_address, next_top, placing_kind, size};
+use crate::placing::{is_mark_form, next_address, next_top, placing_kind, size};
 use crate::scope::Scope;
 use crate::shapes::shape_of;
 use std::alloc::{AllocError, Global};
 use tal_words::{AsmStop, Expanded, Fault, FaultKind, Form, closes, opens};
+use uxn_limits::addresses;
 
 /// Places words one by one: where each lies is known as it is added.
 #[derive(Drop)]
@@ -52,7 +53,7 @@ impl Placer {
             labels: LabelIndex::new(alloc),
             openers: Vec::new(alloc),
             scope: Scope::first(),
-            address: FIRST_ADDRESS,
+            address: addresses::FIRST_ADDRESS,
             top: 0,
             is_faulty: false,
         }
@@ -150,7 +151,7 @@ impl Placer {
         requires new { is_among self.old.labels (option_map (λ bytes. bytes.items) name) ≡ false }
         requires named { OnSome name (placed.address < 2 ^ 16) }
         requires closing { closes_brace text.now ≡ true → placed.address < 2 ^ 16 }
-        requires within { 0 < placed.size → placed.address + placed.size ≤ memory_end }
+        requires within { 0 < placed.size → placed.address + placed.size ≤ MEMORY_END }
         ensures flag { self.new.is_faulty ≡ self.old.is_faulty }
         ensures err { OnErr result (kept_by self.new ≡ kept_by self.old) }
         ensures words { OnOk result (self.new.words.items

@@ -4,7 +4,7 @@ ghost use Rattle.std.specs.Prelude.{◌≡◌, ◌+◌, ◌-◌, ◌<◌, ◌≤
 ghost use Rattle.tal_words.specs.Faults.{Gives, least};
 ghost use Rattle.tal_words.specs.Forms.{size, reference_size as size_of_reference};
 ghost use Rattle.tal_labels.specs.Answers.{next_address};
-ghost use Rattle.tal_labels.specs.Places.{memory_end};
+ghost use Rattle.uxn_limits.specs.declared.addresses.TheConstants.{MEMORY_END};
 ghost use Rattle.tal_labels.specs.Placing.{place_fault, layout_of, place_kinds, is_mark_form, LieApart};
 
 use crate::placed::Placed;
@@ -12,12 +12,7 @@ use crate::placer::Placer;
 use crate::shapes::check_shapes;
 use std::alloc::Global;
 use tal_words::{AsmStop, Expanded, FaultKind, Form, Rune};
-
-/// The address of the first word, and of the first byte of a ROM.
-pub const FIRST_ADDRESS: u64 = 0x0100;
-
-/// The address after the last one of memory.
-pub const MEMORY_END: u64 = 0x1_0000;
+use uxn_limits::addresses;
 
 /// The number of bytes of a word.
 pub fn size(form: Form, text: &[u8]) -> usize
@@ -82,10 +77,10 @@ pub fn placing_kind(
     if twice {
         return Some(FaultKind::LabelTwice);
     }
-    if length > 0 && address < FIRST_ADDRESS {
+    if length > 0 && address < addresses::FIRST_ADDRESS {
         return Some(FaultKind::ZeroPage);
     }
-    if length > 0 && ends_outside(address, length) || is_mark && address >= MEMORY_END {
+    if length > 0 && ends_outside(address, length) || is_mark && address >= addresses::MEMORY_END {
         return Some(FaultKind::Outside);
     }
     if length > 0 && below {
@@ -96,14 +91,14 @@ pub fn placing_kind(
 
 /// Whether a word ends past the last address.
 fn ends_outside(address: u64, length: usize) -> bool
-    ensures { result ≡ nat_lt memory_end (address + length) }
+    ensures { result ≡ nat_lt MEMORY_END (address + length) }
 {
-    address > MEMORY_END || length as u64 > MEMORY_END - address
+    address > addresses::MEMORY_END || length as u64 > addresses::MEMORY_END - address
 }
 
 /// The greatest end of the words with bytes, after a word that does not lie below it.
 pub fn next_top(top: u64, address: u64, length: usize) -> u64
-    requires { 0 < length → address + length ≤ memory_end }
+    requires { 0 < length → address + length ≤ MEMORY_END }
     ensures { result ≡ (if nat_lt 0 length then address + length else top) }
 {
     if length > 0 {

@@ -2,6 +2,7 @@
 
 ghost use Rattle.std.specs.Prelude.{◌≡◌, ◌≤◌, ◌∷◌, ℕ, List, None, length, map};
 ghost use Rattle.std.specs.List.{AllByRecursion};
+ghost use Rattle.uxn_limits.specs.declared.limits.TheConstants.{BANK_ROM_LIMIT};
 ghost use Rattle.tal_words.specs.declared.span.Expanded.{Expanded};
 ghost use Rattle.tal_words.specs.Source.{expanded_text};
 ghost use Rattle.tal_labels.specs.Places.{addresses_of};
@@ -16,5 +17,5 @@ pub fn plain_words_stand_one_behind_the_other()
         → addresses_of source words ≡ 256 ∷ addresses_from 0 coded }
     ensures faultless { (source : List ℕ) (words : List Expanded) (coded : List Coded)
         → map (expanded_text source) words ≡ pad_text ∷ texts_of_coded coded → AllByRecursion RepresentsWord coded
-        → length (bytes_of_coded coded) ≤ 65280 → place_fault source words ≡ None }
+        → length (bytes_of_coded coded) ≤ BANK_ROM_LIMIT → place_fault source words ≡ None }
 {}

@@ -9,7 +9,7 @@ use Rattle.std.proofs.lemmas.List.Concat.{flat_map-append}
 use Rattle.tal_words.specs.declared.form.Form.TheVariants.{Op, Raw1, Raw2}
 use Rattle.tal_words.specs.declared.name.Label.{Label}
 use Rattle.tal_words.specs.Source.{is_blank, is_only}
-use Rattle.tal_words.specs.Comments.{source_limit}
+use Rattle.uxn_limits.specs.declared.limits.TheConstants.{TEXT_LIMIT}
 use Rattle.tal_words.specs.Opcodes.{name_of_op}
 use Rattle.tal_words.specs.PlainTexts.{Item, Comment, PlainWord, chunk_text, chunks_of_item, words_of_item, words_of_items, text_of_items, IsItem, IsComment, AreItems, IsPlainWord}
 use Rattle.tal_words.proofs.BlankFree.{all_joined}
@@ -21,11 +21,13 @@ use Rattle.tal_rom.proofs.PlainLemmas.{plain_assembles}
 use Rattle.uxn_io_traits.specs.NumberText.{hex_of_short, hex_digit, hex_of_byte}
 use Rattle.tal_listing.specs.Texts.{hex_of_bytes, behind_name}
 use Rattle.tal_listing.specs.LabelChains.{labels_of_address}
-use Rattle.tal_listing.specs.Disassembly.{ListedInstruction, immediate_length, instructions_from, immediate_items, instruction_items, label_item, label_items, items_of_instruction, rom_start, disassembly_items, disassembly}
+use Rattle.uxn_limits.specs.declared.addresses.TheConstants.{FIRST_ADDRESS}
+use Rattle.tal_listing.specs.Disassembly.{ListedInstruction, immediate_length, instructions_from, immediate_items, instruction_items, label_item, label_items, items_of_instruction, disassembly_items, disassembly}
 use Rattle.std.proofs.lemmas.Bool.Decides.{nat_tests}
 use Rattle.tal_words.specs.Forms.{form, bare, short_bytes}
 use Rattle.tal_words.specs.Digits.{is_digit, digit_value, number_of_digits}
 use Rattle.tal_words.specs.Names.{rune_of}
+use Rattle.tal_rom.specs.Rom.{rom_limit}
 
 -- what the texts of digits are as words
 digit_known : (n : ℕ) → n < 16 → (is_digit (hex_digit n) ≡ true) × (digit_value (hex_digit n) ≡ n)
@@ -197,12 +199,12 @@ module _ (labels : List Label) (readable : are_readable labels ≡ true) where
       let whole = rw (take-append-drop (immediate_length opcode) bytes) at (ap (λ (all : List ℕ). prefix ++ all) (drop-append_seam prefix (drop (immediate_length opcode) bytes))) in
       rw whole at (sound_more (record { address = address; opcode = opcode; immediate = prefix }) _ _ (omega arith) (small 0 (omega arith)) stands rest)
 
-pub disassembly_assembles : (rom : List ℕ) (labels : List Label) → ((i : ℕ) → i < length rom → slice_index rom i < 256) → length rom ≤ 65280 → are_readable labels ≡ true
-    → length (disassembly rom labels) ≤ source_limit → AssemblesTo (disassembly rom labels) rom
+pub disassembly_assembles : (rom : List ℕ) (labels : List Label) → ((i : ℕ) → i < length rom → slice_index rom i < 256) → length rom ≤ rom_limit → are_readable labels ≡ true
+    → length (disassembly rom labels) ≤ TEXT_LIMIT → AssemblesTo (disassembly rom labels) rom
 unfolding disassembly
 disassembly_assembles rom labels small room readable short =
-    let known = all_sound labels readable (length rom) rom_start rom small (omega arith) (omega arith) in
-    let coded = flat_map coded_of (instructions_from (length rom) rom_start rom) in
+    let known = all_sound labels readable (length rom) FIRST_ADDRESS rom small (omega arith) (omega arith) in
+    let coded = flat_map coded_of (instructions_from (length rom) FIRST_ADDRESS rom) in
     let sound : AreItems (disassembly_items rom labels) =
     ((record { some = omega arith; short = omega arith; blank_free = refl; no_comment = refl; no_paren = refl; no_head = refl; unopened = refl; unclosed = refl }, refl), known.items) in
     let words : words_of_items (disassembly_items rom labels) ≡ pad_text ∷ texts_of_coded coded = ap (λ (texts : List (List ℕ)). pad_text ∷ texts) known.words in
@@ -234,7 +236,7 @@ text_more text labelled more labels line rest whole is_labelled is_more so =
 pub record DisassembledTo (rom : List ℕ) (labels : List Label) (text : List ℕ) (offset : ℕ) : Type 0 where
   pub most : ℕ
   pub enough : length rom ≤ offset + most
-  pub rest : text ++ text_of_items (flat_map (items_of_instruction labels) (instructions_from most (rom_start + offset) (drop offset rom))) ≡ disassembly rom labels
+  pub rest : text ++ text_of_items (flat_map (items_of_instruction labels) (instructions_from most (FIRST_ADDRESS + offset) (drop offset rom))) ≡ disassembly rom labels
 
 pub disassembled_start : (rom : List ℕ) (labels : List Label) (text : List ℕ) → text ≡ pad_text ++ 10 ∷ [] → DisassembledTo rom labels text 0
 unfolding disassembly
@@ -246,23 +248,23 @@ disassembled_end rom labels text offset past up = sym (append-nil text) ∙ rw (
 module _ (rom : List ℕ) (labels : List Label) (text : List ℕ) (offset : ℕ) (within : offset < length rom) (up : DisassembledTo rom labels text offset) where
   abbrev pub instruction_at : ListedInstruction
   instruction_at = record {
-    address = rom_start + offset;
+    address = FIRST_ADDRESS + offset;
     opcode = get_or rom offset 0;
     immediate = take (immediate_length (get_or rom offset 0)) (drop (offset + 1) rom);
   }
 
   -- the next instruction, and those behind it
   instructions_more : (most less next : ℕ) → most ≡ suc less → next ≡ offset + 1 + length instruction_at.immediate
-      → instructions_from most (rom_start + offset) (drop offset rom) ≡ instruction_at ∷ instructions_from less (rom_start + next) (drop next rom)
+      → instructions_from most (FIRST_ADDRESS + offset) (drop offset rom) ≡ instruction_at ∷ instructions_from less (FIRST_ADDRESS + next) (drop next rom)
   unfolding instructions_from
   instructions_more most less next is_most is_next =
-      let place : rom_start + offset + 1 + length instruction_at.immediate ≡ rom_start + (offset + 1 + length instruction_at.immediate) = omega arith in
+      let place : FIRST_ADDRESS + offset + 1 + length instruction_at.immediate ≡ FIRST_ADDRESS + (offset + 1 + length instruction_at.immediate) = omega arith in
       rw (is_most, is_next, drop_more rom offset 0 within, place, drop-drop (length instruction_at.immediate) (offset + 1) rom) refl
 
-  pub disassembled_more : (labelled more : List ℕ) (next : ℕ) → labelled ≡ text ++ text_of_items (label_items labels (rom_start + offset))
+  pub disassembled_more : (labelled more : List ℕ) (next : ℕ) → labelled ≡ text ++ text_of_items (label_items labels (FIRST_ADDRESS + offset))
       → more ≡ labelled ++ text_of_items (instruction_items instruction_at) → next ≡ offset + 1 + length instruction_at.immediate → DisassembledTo rom labels more next
   disassembled_more labelled more next is_labelled is_more is_next =
       let so = rw (instructions_more up.most (up.most - 1) next (omega (arith, up.enough)) is_next) at up.rest in
       let line = instruction_items instruction_at in
-      let rest = text_more text labelled more (label_items labels (rom_start + offset)) line _ _ is_labelled is_more so in
+      let rest = text_more text labelled more (label_items labels (FIRST_ADDRESS + offset)) line _ _ is_labelled is_more so in
       record { most = up.most - 1; enough = omega (arith, up.enough); rest = rest }

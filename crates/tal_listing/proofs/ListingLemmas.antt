@@ -14,7 +14,7 @@ use Rattle.std.proofs.lemmas.Bool.Decides.{nat_tests}
 use Rattle.std.specs.List.{range_with_len}
 use Rattle.std.proofs.lemmas.Grind.{same_number_lists}
 use Rattle.tal_words.proofs.OrderLemmas.{get_or-each, length-each}
-use Rattle.tal_rom.specs.Rom.{Piece, covers, byte_at, before_trimmed, trimmed, rom_image, piece_given, pieces_of}
+use Rattle.tal_rom.specs.Rom.{Piece, covers, byte_at, before_trimmed, trimmed, rom_image, piece_given, pieces_of, rom_limit}
 use Rattle.tal_rom.proofs.AssemblyLemmas.{sound_once}
 
 -- one more byte of memory
@@ -78,11 +78,11 @@ module _ (source : List ℕ) (sound : first_fault source ≡ None) (k : ℕ) (wo
   )
 
   -- a byte of the ROM
-  rom_byte : (i : ℕ) → i < 65280 → get_or (rom_of source) i 0 ≡ byte_at pieces (256 + i)
+  rom_byte : (i : ℕ) → i < rom_limit → get_or (rom_of source) i 0 ≡ byte_at pieces (256 + i)
   unfolding rom_of rom_image
   rom_byte i below =
       let f : ℕ → ℕ = λ n. byte_at pieces (256 + n) in
-      get_or-trimmed (map f (range_with_len 0 65280)) i ∙ get_or-map-range_with_len f 0 65280 i i 0 below (omega arith)
+      get_or-trimmed (map f (range_with_len 0 rom_limit)) i ∙ get_or-map-range_with_len f 0 rom_limit i i 0 below (omega arith)
 
   byte_own : (j : ℕ) → j < placed.size → byte_at pieces (placed.address + j) ≡ get_or own.bytes j 0
   unfolding byte_at

@@ -2,6 +2,7 @@
 use Rattle.std.specs.Prelude.{ℕ, zero, suc, ◌+◌, ◌||◌, ◌==◌, if◌then◌else◌, List, [], ◌∷◌}
 use Rattle.std.specs.Prelude.{◌++◌, length, map, take, drop}
 use Rattle.std.specs.List.{flat_map}
+use Rattle.uxn_limits.specs.declared.addresses.TheConstants.{FIRST_ADDRESS}
 use Rattle.tal_words.specs.declared.name.Label.{Label}
 use Rattle.tal_words.specs.Opcodes.{name_of_op}
 use Rattle.tal_words.specs.PlainTexts.{Item, Comment, PlainWord, text_of_items}
@@ -9,10 +10,6 @@ use Rattle.tal_labels.specs.PlainWords.{pad_text}
 use Rattle.uxn_io_traits.specs.NumberText.{hex_of_short}
 use Rattle.tal_listing.specs.LabelChains.{labels_of_address}
 use Rattle.tal_listing.specs.Texts.{hex_of_bytes}
-
--- the address of the first byte of a ROM
-abbrev pub rom_start : ℕ
-rom_start = 256
 
 -- how many bytes of an instruction follow its opcode: one after LIT and LITr, and two after LIT2, LIT2r, JCI, JMI and JSI
 abbrev pub immediate_length : ℕ → ℕ
@@ -61,7 +58,7 @@ items_of_instruction labels instruction = label_items labels instruction.address
 
 -- the items of a disassembly: `|0100`, and the instructions with their labels
 abbrev pub disassembly_items : List ℕ → List Label → List Item
-disassembly_items rom labels = PlainWord pad_text 10 ∷ flat_map (items_of_instruction labels) (instructions_from (length rom) rom_start rom)
+disassembly_items rom labels = PlainWord pad_text 10 ∷ flat_map (items_of_instruction labels) (instructions_from (length rom) FIRST_ADDRESS rom)
 
 -- the disassembly of a ROM with labels
 unfoldable pub disassembly : List ℕ → List Label → List ℕ

@@ -2,7 +2,7 @@
 
 ghost use Rattle.std.specs.Prelude.{◌≡◌, ◌≤◌, ◌<◌, ◌+◌, ◌++◌, ℕ, List, ◌∷◌, [], length, drop, slice_index, take, true, IfOk, OnOk};
 ghost use Rattle.tal_words.specs.declared.name.Label.{Label};
-ghost use Rattle.tal_words.specs.Comments.{source_limit};
+ghost use Rattle.uxn_limits.specs.declared.limits.TheConstants.{TEXT_LIMIT};
 ghost use Rattle.tal_words.specs.PlainTexts.{text_of_items};
 ghost use Rattle.tal_symbols.specs.SymbolFile.{are_readable};
 ghost use Rattle.tal_rom.specs.PlainWords.{AssemblesTo};
@@ -15,9 +15,7 @@ use crate::chains::LabelChains;
 use std::alloc::{AllocError, Global};
 use tal_words::{Label, op_name};
 use uxn_io_traits::{hex_byte, hex_short};
-
-/// The address of the first byte of a ROM.
-const ROM_START: usize = 0x0100;
+use uxn_limits::addresses;
 
 /// The disassembly of a ROM: the line `|0100`, and then a line for each instruction, with its name, its
 /// immediate as far as the ROM has it, and its address. Before an instruction each label of its address
@@ -26,7 +24,7 @@ const ROM_START: usize = 0x0100;
 pub fn disassemble(alloc: Global, rom: &[u8], labels: &[Label]) -> Result<Vec<u8>, AllocError>
     requires { length rom.now ≤ rom_limit }
     ensures value { IfOk result (λ text. text.items ≡ disassembly rom.now labels.now) }
-    ensures assembles { IfOk result (λ text. are_readable labels.now ≡ true → length text.items ≤ source_limit
+    ensures assembles { IfOk result (λ text. are_readable labels.now ≡ true → length text.items ≤ TEXT_LIMIT
         → AssemblesTo text.items rom.now) }
 {
     let chains = LabelChains::new(alloc, labels)?;
@@ -34,7 +32,7 @@ pub fn disassemble(alloc: Global, rom: &[u8], labels: &[Label]) -> Result<Vec<u8
     text.extend_from_slice(b"|0100\n")?;
     let mut offset = 0;
     while offset < rom.len() {
-        let address = (ROM_START + offset) as u16;
+        let address = (addresses::FIRST_ADDRESS as usize + offset) as u16;
         append_label_lines(&mut text, &chains, labels, address)?;
         let immediate = immediate_of(rom, offset);
         append_instruction(&mut text, address, rom[offset], immediate)?;
@@ -48,7 +46,7 @@ pub fn disassemble(alloc: Global, rom: &[u8], labels: &[Label]) -> Result<Vec<u8
 /// than a source may be.
 pub fn disassemblies_assemble()
     ensures { (rom : List ℕ) (labels : List Label) → ((i : ℕ) → i < length rom → slice_index rom i < 256)
-        → length rom ≤ rom_limit → are_readable labels ≡ true → length (disassembly rom labels) ≤ source_limit
+        → length rom ≤ rom_limit → are_readable labels ≡ true → length (disassembly rom labels) ≤ TEXT_LIMIT
         → AssemblesTo (disassembly rom labels) rom }
 {}
 

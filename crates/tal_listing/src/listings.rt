@@ -3,15 +3,14 @@
 ghost use Rattle.std.specs.Prelude.{◌≡◌, ◌≤◌, ◌<◌, ◌+◌, ◌++◌, ℕ, List, ◌∷◌, [], None, Ok, IfOk, OnOk};
 ghost use Rattle.tal_rom.specs.Assembly.{IsAssembled, first_fault};
 ghost use Rattle.tal_listing.specs.Listing.{listing_of, memory_bytes, spaced_bytes, position_text, word_line, HoldsItsWords};
+ghost use Rattle.tal_rom.specs.Rom.{rom_limit};
 
 use std::alloc::{AllocError, Global};
 use tal_labels::PlacedWord;
 use tal_rom::Assembly;
 use tal_words::Word;
 use uxn_io_traits::{decimal, hex_byte, hex_short};
-
-/// The address of the first byte of a ROM.
-const ROM_START: u64 = 0x0100;
+use uxn_limits::addresses;
 
 /// The listing of the assembly of a source: for each word that has bytes a line with its address, its
 /// bytes, the line and column of the source word from which it came, and the word itself.
@@ -47,7 +46,12 @@ fn append_word_line(
     ensures { OnOk result (text.new.items ≡ text.old.items ++ (word_line source.now rom.now word.now ++ 10 ∷ [])) }
 {
     text.extend_from_slice(&hex_short(word.address as u16))?;
-    append_memory(text, rom, (word.address - ROM_START) as usize, word.size)?;
+    append_memory(
+        text,
+        rom,
+        (word.address - addresses::FIRST_ADDRESS) as usize,
+        word.size,
+    )?;
     text.extend_from_slice(b"  ")?;
     append_position(text, &word.word.origin)?;
     text.push(b' ')?;
@@ -63,7 +67,7 @@ fn append_memory(
     offset: usize,
     count: u16,
 ) -> Result<(), AllocError>
-    requires { offset ≤ 65280 }
+    requires { offset ≤ rom_limit }
     ensures { OnOk result (text.new.items ≡ text.old.items ++ spaced_bytes (memory_bytes rom.now (offset + 256) count)) }
 {
     for i in 0..count {

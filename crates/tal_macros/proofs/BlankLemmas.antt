@@ -1,15 +1,9 @@
 -- No word of an expanded list has a blank.
-use Rattle.std.proofs.Common.{ℕ, zero, suc, List, [], ◌∷◌, ◌++◌, take, arith}
-use Rattle.std.specs.Prelude.{unwrap_or}
-use Rattle.std.specs.List.{flat_map, AllByRecursion}
-use Rattle.tal_words.specs.declared.span.Word.{Word}
-use Rattle.tal_words.specs.declared.span.Expanded.{Expanded}
-use Rattle.tal_words.specs.Source.{bytes_at, word_text, expanded_text}
-use Rattle.tal_words.specs.Comments.{words_of}
-use Rattle.tal_words.specs.Order.{collected}
-use Rattle.tal_words.specs.PlainTexts.{IsBlankFree}
+use Rattle.tal_macros.proofs.Common.{ℕ, zero, suc, List, [], ◌∷◌, ◌++◌, take, arith, unwrap_or, flat_map, AllByRecursion, Word, Expanded, bytes_at}
+use Rattle.tal_macros.proofs.Common.{word_text, expanded_text, words_of, collected, IsBlankFree, MACRO_DEPTH, Macro, Part, Plain, Head, Inside}
+use Rattle.tal_macros.proofs.Common.{Visited, body_named, body_defined, part_of, parts_from, head_length, macro_given, known_at, visits, visits_given}
+use Rattle.tal_macros.proofs.Common.{visit_list, without_uses, parts_of, expanded_of}
 use Rattle.tal_words.proofs.BlankFree.{all_joined, words_free}
-use Rattle.tal_macros.specs.Expansion.{Macro, Part, Plain, Head, Inside, Visited, depth_limit, body_named, body_defined, part_of, parts_from, head_length, macro_given, known_at, visits, visits_given, visit_list, without_uses, parts_of, expanded_of}
 
 -- what holds of what each of some things gives
 all_flat : {X Y : Type 0} (P : X → Type 0) (Q : Y → Type 0) (f : X → List Y) → ((x : X) → P x → AllByRecursion Q (f x)) → (xs : List X)
@@ -61,7 +55,7 @@ module _ (source : List ℕ) where
   unfolding known_at
   given_free before (Plain word) after all plain =
       let known = all_flat IsFreePart IsFreeMacro (macro_given source) (λ part plain. grind arith) before all in
-      visits_free (known_at source before) word depth_limit known word plain
+      visits_free (known_at source before) word MACRO_DEPTH known word plain
   given_free before part after all plain = tt
 
   list_free : (before parts : List Part) → AllByRecursion IsFreePart before → AllByRecursion IsFreePart parts → AllByRecursion IsFreeVisit (collected (visits_given source) before parts)

@@ -1,16 +1,8 @@
 -- The search for the `}` of a body, one word at a time.
-use Rattle.std.proofs.Common.{◌≡◌, ℕ, suc, ◌+◌, ◌-◌, ◌<◌, ◌≤◌, Bool, true, false, ◌&&◌, ◌==◌, List, [], ◌∷◌, map, length, take, drop, Option, Some, None, refl, ap, sym, ◌∙◌, arith}
-use Rattle.std.specs.Prelude.{if◌then◌else◌}
-use Rattle.std.specs.List.{find}
-use Rattle.std.specs.Option.{option_map, option_or}
-use Rattle.std.proofs.lemmas.List.{drop_all}
-use Rattle.std.proofs.lemmas.Bool.{ne_eqb, eqb-true}
-use Rattle.tal_words.specs.declared.span.Word.{Word}
+use Rattle.tal_macros.proofs.Common.{◌≡◌, ℕ, suc, ◌+◌, ◌-◌, ◌<◌, ◌≤◌, Bool, true, false, ◌&&◌, ◌==◌, List, [], ◌∷◌, map, length, take, drop, Option}
+use Rattle.tal_macros.proofs.Common.{Some, None, refl, ap, sym, ◌∙◌, arith, if◌then◌else◌, find, option_map, option_or, drop_all, ne_eqb, eqb-true}
+use Rattle.tal_macros.proofs.Common.{Word, begins, is_only, word_text, body_after, word_at, is_head, IsBody}
 use Rattle.tal_words.specs.Braces.{opens, closes, one_if, matching_after, matching}
-use Rattle.tal_words.specs.Source.{begins, is_only, word_text}
-use Rattle.tal_macros.specs.Expansion.{body_after}
-use Rattle.tal_macros.specs.Bodies.{word_at}
-use Rattle.tal_macros.specs.Heads.{is_head, IsBody}
 use Rattle.tal_macros.proofs.Known.{drop-word}
 
 -- a word that is one byte alone begins no head, unless this is `%`

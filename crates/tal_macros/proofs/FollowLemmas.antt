@@ -1,14 +1,8 @@
 -- A pass that goes on as the expansion of its source does.
-use Rattle.std.proofs.Common.{◌≡◌, ℕ, ◌≤◌, ◌⊎◌, inl, inr, true, false, List, [], drop, Some, None, ap, sym, ◌∙◌, arith}
-use Rattle.std.proofs.lemmas.List.{drop-drop}
-use Rattle.tal_words.specs.declared.span.Word.{Word}
-use Rattle.tal_words.specs.declared.span.Expanded.{Expanded}
-use Rattle.tal_words.specs.Order.{collected}
-use Rattle.tal_words.specs.Comments.{words_of}
-use Rattle.tal_macros.specs.declared.pass.Pass.{Pass}
-use Rattle.tal_macros.specs.Expansion.{Visited, parts_of, parts_from, known_at, visit_list, visit_limit}
-use Rattle.tal_macros.specs.Steps.{steps_given, reached, next_word, visits_before_fault, Progress, words_left, advanced}
-use Rattle.tal_macros.specs.Passing.{rest, left, Passes, Visits, Follows}
+use Rattle.tal_macros.proofs.Common.{◌≡◌, ℕ, ◌≤◌, ◌⊎◌, inl, inr, true, false, List, [], drop, Some, None, ap, sym, ◌∙◌, arith, drop-drop, Word}
+use Rattle.tal_macros.proofs.Common.{Expanded, collected, words_of, Pass, VISIT_LIMIT, Visited, parts_of, parts_from, known_at, visit_list}
+use Rattle.tal_macros.proofs.Common.{steps_given, reached, next_word, visits_before_fault, Progress, words_left, advanced, rest, left, Passes, Visits}
+use Rattle.tal_macros.proofs.Common.{Follows}
 use Rattle.tal_macros.proofs.StepLemmas.{collected-rest, fault-steps}
 
 module _ (source : List ℕ) (words : List Word) where
@@ -40,7 +34,7 @@ module _ (source : List ℕ) (words : List Word) where
     -- where nothing is left to visit
     pub next-none : reached (left source words old) ≡ [] → Passes source words old new
         → (next_word (words_left (progress visited)) ≡ None) × (progress new.count ≡ advanced (progress visited))
-        × (new.count ≤ visit_limit)
+        × (new.count ≤ VISIT_LIMIT)
     next-none none passes = (grind arith, ap progress (grind arith), omega (arith, passes.count, follows.bound))
 
   -- after a step that gives no word

@@ -1,14 +1,11 @@
 -- What an Expander has given, one word further on and at the end.
-use Rattle.std.proofs.Common.{◌≡◌, ℕ, ◌+◌, ◌≤◌, List, [], ◌∷◌, ◌++◌, length, take, drop, Some, None, refl, ap, sym, ◌∙◌, arith, append-nil, add-one}
-use Rattle.std.specs.Prelude.{not}
-use Rattle.std.proofs.lemmas.Grind.{common_steps}
-use Rattle.std.proofs.lemmas.List.{map-append, length-map, length-take, take-append-drop, drop-drop}
+use Rattle.tal_macros.proofs.Common.{◌≡◌, ℕ, ◌+◌, ◌≤◌, List, [], ◌∷◌, ◌++◌, length, take, drop, Some, None, refl, ap, sym, ◌∙◌, arith, append-nil}
+use Rattle.tal_macros.proofs.Common.{add-one, not, common_steps, map-append, length-map, length-take, take-append-drop, drop-drop, Expanded, Visited}
+use Rattle.tal_macros.proofs.Common.{without_uses, expanded_of, expansion_fault, Progress, given, words_left, next_word, count_to_next, advanced}
+use Rattle.tal_macros.proofs.Common.{visits_before_fault}
 use Rattle.std.proofs.lemmas.List.Elements.{filter-append}
 use Rattle.std.proofs.lemmas.List.Sums.{length-filter, count_by-le-length}
 use Rattle.std.proofs.Math.Seq.{take-add}
-use Rattle.tal_words.specs.declared.span.Expanded.{Expanded}
-use Rattle.tal_macros.specs.Expansion.{Visited, without_uses, expanded_of, expansion_fault}
-use Rattle.tal_macros.specs.Steps.{Progress, given, words_left, next_word, count_to_next, advanced, visits_before_fault}
 use Rattle.tal_macros.proofs.StepLemmas.{visits_before_fault-all}
 
 without_uses-append : (xs ys : List Visited) → without_uses (xs ++ ys) ≡ without_uses xs ++ without_uses ys

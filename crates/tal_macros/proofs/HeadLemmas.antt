@@ -1,20 +1,9 @@
 -- The faults of a head, and how the expansion goes on behind it.
-use Rattle.std.proofs.Common.{◌≡◌, ℕ, zero, suc, ◌+◌, ◌-◌, ◌<◌, Bool, true, List, [], ◌∷◌, ◌++◌, length, take, drop, Option, Some, None, refl, ap, sym, ◌∙◌, arith}
-use Rattle.std.specs.Prelude.{if◌then◌else◌}
-use Rattle.std.specs.List.{find}
-use Rattle.std.specs.Option.{option_to_list}
-use Rattle.std.proofs.lemmas.List.{drop-drop, length-take, length-drop}
-use Rattle.tal_words.specs.declared.span.Word.{Word}
-use Rattle.tal_words.specs.declared.fault.FaultKind.{FaultKind}
+use Rattle.tal_macros.proofs.Common.{◌≡◌, ℕ, zero, suc, ◌+◌, ◌-◌, ◌<◌, Bool, true, List, [], ◌∷◌, ◌++◌, length, take, drop, Option, Some, None, refl}
+use Rattle.tal_macros.proofs.Common.{ap, sym, ◌∙◌, arith, if◌then◌else◌, find, option_to_list, drop-drop, length-take, length-drop, Word, FaultKind}
+use Rattle.tal_macros.proofs.Common.{when, least, fault_at, name_fault, word_text, Body, Macro, Head, body_after, head_faults, head_length, parts_from}
+use Rattle.tal_macros.proofs.Common.{body_words, word_at, Continues, RefusesInSteps, rest, is_head, IsBody}
 use Rattle.tal_words.specs.declared.fault.FaultKind.TheVariants.{BadName, MacroTwice, MacroBody}
-use Rattle.tal_words.specs.Faults.{when, least, fault_at}
-use Rattle.tal_words.specs.Names.{name_fault}
-use Rattle.tal_words.specs.Source.{word_text}
-use Rattle.tal_macros.specs.declared.body.Body.{Body}
-use Rattle.tal_macros.specs.Expansion.{Macro, Head, body_after, head_faults, head_length, parts_from}
-use Rattle.tal_macros.specs.Bodies.{body_words, word_at}
-use Rattle.tal_macros.specs.Passing.{Continues, RefusesInSteps, rest}
-use Rattle.tal_macros.specs.Heads.{is_head, IsBody}
 use Rattle.tal_macros.proofs.Known.{drop-word}
 use Rattle.tal_macros.proofs.PassLemmas.{continues-along, refuses-at}
 

@@ -1,16 +1,10 @@
 -- Words, bodies and macros as lists.
-use Rattle.std.proofs.Common.{◌≡◌, ℕ, ◌+◌, ◌<◌, Bool, List, [], ◌∷◌, ◌++◌, length, drop, None, refl, arith}
-use Rattle.std.specs.Prelude.{Vec}
-use Rattle.std.specs.Option.{option_map}
+use Rattle.tal_macros.proofs.Common.{◌≡◌, ℕ, ◌+◌, ◌<◌, Bool, List, [], ◌∷◌, ◌++◌, length, drop, None, refl, arith, Vec, option_map, drop_more, Word}
+use Rattle.tal_macros.proofs.Common.{body_named, Body, body_words, known_macros, word_at}
 use Rattle.std.specs.Map.{lookup}
 use Rattle.std.specs.Str.{bytes_eq}
 use Rattle.std.specs.declared.alloc.Global.{Global}
-use Rattle.std.proofs.lemmas.List.{drop_more}
 use Rattle.indexmap.specs.IndexMap.{insert_entry}
-use Rattle.tal_words.specs.declared.span.Word.{Word}
-use Rattle.tal_macros.specs.Expansion.{body_named}
-use Rattle.tal_macros.specs.declared.body.Body.{Body}
-use Rattle.tal_macros.specs.Bodies.{body_words, known_macros, word_at}
 
 -- the words from an index on begin with the word at it
 pub drop-word : (words : List Word) (at : ℕ) → at < length words → drop at words ≡ word_at words at ∷ drop (at + 1) words

@@ -1,18 +1,9 @@
 -- One step of a pass.
-use Rattle.std.proofs.Common.{◌≡◌, ℕ, zero, suc, ◌+◌, ◌-◌, ◌<◌, ◌≤◌, true, false, List, [], ◌∷◌, ◌++◌, length, drop, Option, Some, None, is_some, refl, ap, arith, append_assoc, append-nil, length-append}
-use Rattle.std.specs.Prelude.{unwrap_or}
-use Rattle.std.specs.List.{flat_map}
-use Rattle.std.specs.Option.{option_to_list}
-use Rattle.std.proofs.lemmas.List.{drop_all}
-use Rattle.tal_words.specs.declared.span.Word.{Word}
-use Rattle.tal_words.specs.declared.fault.FaultKind.{FaultKind}
-use Rattle.tal_words.specs.Source.{begins, word_text}
-use Rattle.tal_words.specs.Faults.{Validated, least, fault_at}
-use Rattle.tal_macros.specs.declared.body.Body.{Body}
-use Rattle.tal_macros.specs.Expansion.{Macro, Visited, body_named, parts_from, visit_kinds, visited, visits, depth_limit}
-use Rattle.tal_macros.specs.Bodies.{body_words, word_at}
-use Rattle.tal_macros.specs.Steps.{ExpansionStep, reached}
-use Rattle.tal_macros.specs.Passing.{Continues, RefusesInSteps, fault_of, rest, open_visits, steps_from}
+use Rattle.tal_macros.proofs.Common.{◌≡◌, ℕ, zero, suc, ◌+◌, ◌-◌, ◌<◌, ◌≤◌, true, false, List, [], ◌∷◌, ◌++◌, length, drop, Option, Some, None}
+use Rattle.tal_macros.proofs.Common.{is_some, refl, ap, arith, append_assoc, append-nil, length-append, unwrap_or, flat_map, option_to_list, drop_all}
+use Rattle.tal_macros.proofs.Common.{Word, FaultKind, begins, word_text, Validated, least, fault_at, Body, MACRO_DEPTH, Macro, Visited, body_named}
+use Rattle.tal_macros.proofs.Common.{parts_from, visit_kinds, visited, visits, body_words, word_at, ExpansionStep, reached, Continues, RefusesInSteps}
+use Rattle.tal_macros.proofs.Common.{fault_of, rest, open_visits, steps_from}
 use Rattle.tal_macros.proofs.Known.{drop-word}
 
 -- steps that begin with one that has no fault, or with one that has
@@ -58,38 +49,38 @@ module _ (source : List ℕ) (words : List Word) (known : List Macro) (origin : 
   -- what is visited for the rest of a body and behind it
   abbrev pub pending : List Body → Body → List Visited
   pending bodies body =
-      flat_map (visits source known origin (depth_limit - length bodies)) (body_words words body) ++ open_visits source words known origin depth_limit bodies
+      flat_map (visits source known origin (MACRO_DEPTH - length bodies)) (body_words words body) ++ open_visits source words known origin MACRO_DEPTH bodies
 
   -- behind the words of a body those around its use go on
   pub pending-push : (old bodies : List Body) (body outer : Body) → old ≡ bodies ++ outer ∷ []
-      → pending old body ≡ flat_map (visits source known origin (depth_limit - length bodies - 1)) (body_words words body) ++ pending bodies outer
+      → pending old body ≡ flat_map (visits source known origin (MACRO_DEPTH - length bodies - 1)) (body_words words body) ++ pending bodies outer
   pending-push old bodies body outer parts =
-      let room : depth_limit - length (bodies ++ outer ∷ []) ≡ depth_limit - length bodies - 1 = omega (arith, length-append bodies (outer ∷ [])) in
+      let room : MACRO_DEPTH - length (bodies ++ outer ∷ []) ≡ MACRO_DEPTH - length bodies - 1 = omega (arith, length-append bodies (outer ∷ [])) in
       rw (parts, room, open_visits-push) refl
 
   -- the first word of a body
   module _ (bodies : List Body) (body next : Body) (word : Word) (count at : ℕ) (first : body_words words body ≡ word ∷ body_words words next) where
     abbrev pub here : Visited
-    here = visited source known origin (depth_limit - length bodies) word
+    here = visited source known origin (MACRO_DEPTH - length bodies) word
 
     pub steps-word : (more : List ExpansionStep) × (steps_from source words known count (pending bodies body) at
         ≡ record { validated = record { origin = origin; kinds = visit_kinds count here }; visit = Some here } ∷ more)
     steps-word =
-        let inner = visits-first (depth_limit - length bodies) word in (
+        let inner = visits-first (MACRO_DEPTH - length bodies) word in (
           steps_from source words known (count + 1)
-              ((inner.0 ++ flat_map (visits source known origin (depth_limit - length bodies)) (body_words words next)) ++ open_visits source words known origin depth_limit bodies) at,
+              ((inner.0 ++ flat_map (visits source known origin (MACRO_DEPTH - length bodies)) (body_words words next)) ++ open_visits source words known origin MACRO_DEPTH bodies) at,
           rw (first, inner.1) (steps-first count at here _),
         )
 
-    pub steps-inside : (used : Option (List Word)) → body_named known (word_text source word) ≡ used → (is_some used ≡ true → length bodies < depth_limit)
+    pub steps-inside : (used : Option (List Word)) → body_named known (word_text source word) ≡ used → (is_some used ≡ true → length bodies < MACRO_DEPTH)
         → steps_from source words known count (pending bodies body) at
         ≡ record { validated = record { origin = origin; kinds = visit_kinds count here }; visit = Some here }
-        ∷ steps_from source words known (count + 1) (flat_map (visits source known origin (depth_limit - length bodies - 1)) (unwrap_or used []) ++ pending bodies next) at
+        ∷ steps_from source words known (count + 1) (flat_map (visits source known origin (MACRO_DEPTH - length bodies - 1)) (unwrap_or used []) ++ pending bodies next) at
     steps-inside used named roomy =
-        let inner = flat_map (visits source known origin (depth_limit - length bodies - 1)) (unwrap_or used []) in
-        let behind = flat_map (visits source known origin (depth_limit - length bodies)) (body_words words next) in
-        rw (first, visits-inside (depth_limit - length bodies) word used named (λ some. omega (arith, roomy some)))
-        (rw (append_assoc inner behind (open_visits source words known origin depth_limit bodies)) (steps-first count at here _))
+        let inner = flat_map (visits source known origin (MACRO_DEPTH - length bodies - 1)) (unwrap_or used []) in
+        let behind = flat_map (visits source known origin (MACRO_DEPTH - length bodies)) (body_words words next) in
+        rw (first, visits-inside (MACRO_DEPTH - length bodies) word used named (λ some. omega (arith, roomy some)))
+        (rw (append_assoc inner behind (open_visits source words known origin MACRO_DEPTH bodies)) (steps-first count at here _))
 
 module _ (source : List ℕ) (words : List Word) (known : List Macro) (count at : ℕ) where
   -- the words of the source from an index on
@@ -104,7 +95,7 @@ module _ (source : List ℕ) (words : List Word) (known : List Macro) (count at 
   steps-source within plain =
       let none : count + 0 ≡ count = omega arith in
       let one : at + 1 - at ≡ 1 = omega arith in
-      let alone = append-nil (visits source known (word_at words at) depth_limit (word_at words at)) in
+      let alone = append-nil (visits source known (word_at words at) MACRO_DEPTH (word_at words at)) in
       rw (none, drop-word words at within, plain, one, alone, alone) refl
 
   -- steps where nothing is visited before the words of the source

@@ -1,26 +1,18 @@
 -- A source of plain words: its expanded list is its words.
-use Rattle.std.proofs.Common.{◌≡◌, ℕ, ◌+◌, ◌≤◌, false, List, [], ◌∷◌, length, map, None, refl, ap, sym, ◌∙◌, arith}
-use Rattle.std.specs.List.{AllByRecursion}
-use Rattle.std.proofs.lemmas.Bool.{lt-leb}
-use Rattle.std.proofs.lemmas.List.{length-map}
-use Rattle.tal_words.specs.declared.span.Word.{Word}
-use Rattle.tal_words.specs.Source.{word_text, expanded_text}
-use Rattle.tal_words.specs.Order.{collected}
-use Rattle.tal_words.specs.Comments.{words_of}
-use Rattle.tal_words.specs.PlainTexts.{IsPlainWord}
-use Rattle.tal_macros.specs.Expansion.{Visited, depth_limit, visit_limit, without_uses, parts_from, known_at, visits, visit_list, parts_of, expanded_of, expansion_fault}
-use Rattle.tal_macros.specs.Steps.{steps_given, visit_steps}
-use Rattle.tal_macros.specs.Passing.{fault_of, rest}
+use Rattle.tal_macros.proofs.Common.{◌≡◌, ℕ, ◌+◌, ◌≤◌, false, List, [], ◌∷◌, length, map, None, refl, ap, sym, ◌∙◌, arith, AllByRecursion, lt-leb}
+use Rattle.tal_macros.proofs.Common.{length-map, Word, word_text, expanded_text, collected, words_of, IsPlainWord, MACRO_DEPTH, VISIT_LIMIT, Visited}
+use Rattle.tal_macros.proofs.Common.{without_uses, parts_from, known_at, visits, visit_list, parts_of, expanded_of, expansion_fault, steps_given}
+use Rattle.tal_macros.proofs.Common.{visit_steps, fault_of, rest}
 use Rattle.tal_macros.proofs.StepLemmas.{visited_at, collected-rest, visits-steps, visits-visits, fault-steps}
 
 -- a word as it is visited
 abbrev observed : Word → Visited
-observed word = record { origin = word; text = word.span; room = depth_limit; is_use = false }
+observed word = record { origin = word; text = word.span; room = MACRO_DEPTH; is_use = false }
 
 -- the steps of such words have no fault while there are few
-few_words : (count : ℕ) (words : List Word) → count + length words ≤ visit_limit → fault_of (visit_steps count (map observed words)) ≡ None
+few_words : (count : ℕ) (words : List Word) → count + length words ≤ VISIT_LIMIT → fault_of (visit_steps count (map observed words)) ≡ None
 few_words count [] few = refl
-few_words count (word ∷ words) few = rw (lt-leb visit_limit count (omega arith)) (few_words (count + 1) words (omega arith))
+few_words count (word ∷ words) few = rw (lt-leb VISIT_LIMIT count (omega arith)) (few_words (count + 1) words (omega arith))
 
 module _ (source : List ℕ) where
   rest_plain : (count : ℕ) (words : List Word) → AllByRecursion IsPlainWord (map (word_text source) words)
@@ -45,7 +37,7 @@ module _ (source : List ℕ) where
         (sym (visits-steps source [] (parts_of source)) ∙ ap visited_at steps_are ∙ visits-visits 0 (map observed (words_of source)))
         ∙ texts_observed (words_of source) ∙ are
 
-    pub no_expansion_fault : length texts ≤ visit_limit → expansion_fault source ≡ None
+    pub no_expansion_fault : length texts ≤ VISIT_LIMIT → expansion_fault source ≡ None
     no_expansion_fault few =
         sym (fault-steps source) ∙ ap fault_of steps_are
         ∙ few_words 0 (words_of source) (omega (arith, few, ap length are, length-map (words_of source) (word_text source)))

@@ -1,15 +1,9 @@
 -- The steps of an expansion, as they are validated and as they visit.
-use Rattle.std.proofs.Common.{◌≡◌, ℕ, ◌+◌, List, [], ◌∷◌, ◌++◌, length, map, drop, None, refl, ap, ◌∙◌, append-nil, length-append, arith}
-use Rattle.std.specs.List.{flat_map}
-use Rattle.std.specs.Option.{option_to_list}
-use Rattle.std.proofs.lemmas.Grind.{flat_map-append}
-use Rattle.std.proofs.lemmas.List.{map-append}
-use Rattle.tal_words.specs.Order.{collected}
-use Rattle.tal_words.specs.Faults.{phase_fault}
+use Rattle.tal_macros.proofs.Common.{◌≡◌, ℕ, ◌+◌, List, [], ◌∷◌, ◌++◌, length, map, drop, None, refl, ap, ◌∙◌, append-nil, length-append, arith}
+use Rattle.tal_macros.proofs.Common.{flat_map, option_to_list, flat_map-append, map-append, collected, phase_fault, Part, Visited, known_at}
+use Rattle.tal_macros.proofs.Common.{visits_given, visit_list, validated_visits, validated_part, parts_of, expansion_fault, ExpansionStep, visit_steps}
+use Rattle.tal_macros.proofs.Common.{steps_given, reached, visits_before_fault, fault_of, rest}
 use Rattle.tal_words.proofs.OrderLemmas.{collected-more}
-use Rattle.tal_macros.specs.Expansion.{Part, Visited, known_at, visits_given, visit_list, validated_visits, validated_part, parts_of, expansion_fault}
-use Rattle.tal_macros.specs.Steps.{ExpansionStep, visit_steps, steps_given, reached, visits_before_fault}
-use Rattle.tal_macros.specs.Passing.{fault_of, rest}
 
 -- the words that steps visit
 abbrev pub visited_at : List ExpansionStep → List Visited

@@ -5,6 +5,7 @@ use Rattle.std.specs.Prelude.{unwrap_or}
 use Rattle.std.specs.Option.{option_map, option_to_list}
 use Rattle.std.specs.List.{flat_map}
 use Rattle.std.specs.Str.{bytes_eq}
+use Rattle.uxn_limits.specs.declared.limits.TheConstants.{VISIT_LIMIT, MACRO_DEPTH}
 use Rattle.tal_words.specs.declared.span.Span.{Span}
 use Rattle.tal_words.specs.declared.span.Word.{Word}
 use Rattle.tal_words.specs.declared.span.Expanded.{Expanded}
@@ -43,22 +44,15 @@ pub record Visited : Type 0 where
   pub room : ℕ
   pub is_use : Bool
 
--- how deep a use may stand, and how many words may be visited
-abbrev pub depth_limit : ℕ
-depth_limit = 32
-
-abbrev pub visit_limit : ℕ
-visit_limit = 1000000
-
 -- how many words of a head follow its first: the body and its braces
 abbrev pub head_length : Option (List Word) → ℕ
 head_length None = 0
 head_length (Some body) = length body + 2
 
--- what is wrong with a word of the visit list, by how many stand before it: it is a use at depth 33, or it stands past the
+-- what is wrong with a word of the visit list, by how many stand before it: it is a use that stands too deep, or it stands past the
 -- limit. The first word of the list that has a fault is the limit word
 abbrev pub visit_kinds : ℕ → Visited → List FaultKind
-visit_kinds before word = when (word.is_use && word.room == 0) MacroDeep ++ when (nat_le visit_limit before) ManyWords
+visit_kinds before word = when (word.is_use && word.room == 0) MacroDeep ++ when (nat_le VISIT_LIMIT before) ManyWords
 
 -- words of the visit list with what is wrong with them, so many of the list before the first
 abbrev pub validated_visits : ℕ → List Visited → List Validated
@@ -116,7 +110,7 @@ module _ (source : List ℕ) where
 
   -- the words visited for a part, by the parts before it
   abbrev pub visits_given : List Part → Part → List Part → List Visited
-  visits_given before (Plain word) after = visits (known_at before) word depth_limit word
+  visits_given before (Plain word) after = visits (known_at before) word MACRO_DEPTH word
   visits_given before (Head word body) after = []
   visits_given before (Inside word) after = []
 
@@ -132,7 +126,7 @@ module _ (source : List ℕ) where
 
   -- the words visited for a part, a head, or a further word of a head, with what is wrong with each
   abbrev pub validated_part : List Part → Part → List Part → List Validated
-  validated_part before (Plain word) after = validated_visits (length (visit_list before)) (visits (known_at before) word depth_limit word)
+  validated_part before (Plain word) after = validated_visits (length (visit_list before)) (visits (known_at before) word MACRO_DEPTH word)
   validated_part before (Head word body) after = record { origin = word; kinds = head_faults word (known_at before) body } ∷ []
   validated_part before (Inside word) after = record { origin = word; kinds = when (begins 37 (word_text source word)) MacroBody } ∷ []
 

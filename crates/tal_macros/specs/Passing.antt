@@ -14,8 +14,9 @@ use Rattle.tal_macros.specs.declared.body.Body.{Body}
 use Rattle.tal_macros.specs.declared.pass.Pass.{Pass}
 use Rattle.tal_macros.specs.declared.pass.Turn.{Turn}
 use Rattle.tal_macros.specs.declared.pass.Turn.TheVariants.{Passed, Word as Given, End}
-use Rattle.tal_macros.specs.Expansion.{Macro, Part, Plain, Head, Inside, Visited, parts_from, macro_given, visits, depth_limit}
-use Rattle.tal_macros.specs.Expansion.{visit_limit, head_faults, expansion_fault}
+use Rattle.uxn_limits.specs.declared.limits.TheConstants.{MACRO_DEPTH, VISIT_LIMIT}
+use Rattle.tal_macros.specs.Expansion.{Macro, Part, Plain, Head, Inside, Visited, parts_from, macro_given, visits}
+use Rattle.tal_macros.specs.Expansion.{head_faults, expansion_fault}
 use Rattle.tal_macros.specs.Bodies.{body_words, known_macros}
 use Rattle.tal_macros.specs.Steps.{ExpansionStep, visit_steps, head_steps, reached, next_word, count_to_next, visits_before_fault}
 
@@ -43,8 +44,8 @@ module _ (source : List ℕ) where
   unfoldable pub rest : List Macro → ℕ → List Part → List ExpansionStep
   rest known count [] = []
   rest known count (Plain word ∷ parts) =
-      visit_steps count (visits source known word depth_limit word)
-      ++ rest known (count + length (visits source known word depth_limit word)) parts
+      visit_steps count (visits source known word MACRO_DEPTH word)
+      ++ rest known (count + length (visits source known word MACRO_DEPTH word)) parts
   rest known count (Head word body ∷ parts) =
       head_steps (record { origin = word; kinds = head_faults source word known body } ∷ [])
       ++ rest (known ++ macro_given source (Head word body)) count parts
@@ -68,13 +69,13 @@ module _ (source : List ℕ) where
     left pass =
         let known = known_macros words pass.macros.entries in
         steps_from known pass.count
-        (flat_map (visits source known pass.origin (depth_limit - length pass.outer.items)) (body_words words pass.body)
-        ++ open_visits known pass.origin depth_limit pass.outer.items)
+        (flat_map (visits source known pass.origin (MACRO_DEPTH - length pass.outer.items)) (body_words words pass.body)
+        ++ open_visits known pass.origin MACRO_DEPTH pass.outer.items)
         pass.at
 
     -- what falls with each step that gives no word
     abbrev pub to_go : Pass → ℕ
-    to_go pass = 2 * (visit_limit - pass.count) + length pass.outer.items + (length words - pass.at)
+    to_go pass = 2 * (VISIT_LIMIT - pass.count) + length pass.outer.items + (length words - pass.at)
 
     -- nothing was visited
     pub record Passes (old new : Pass) : Type 0 where
@@ -85,7 +86,7 @@ module _ (source : List ℕ) where
     pub record Visits (old new : Pass) (word : Visited) : Type 0 where
       pub continues : Continues (left old) (left new) (word ∷ [])
       pub count : new.count ≡ old.count + 1
-      pub bound : new.count ≤ visit_limit
+      pub bound : new.count ≤ VISIT_LIMIT
 
     -- what a step of a pass answers
     abbrev pub TurnGives : Pass → Pass → Result Turn AsmStop → Type 0
@@ -102,5 +103,5 @@ module _ (source : List ℕ) where
       pub faults : fault_of (left pass) ≡ expansion_fault source
       pub next_is : next_word (drop visited (visits_before_fault source)) ≡ next_word (reached (left pass))
       pub ahead : visited + count_to_next (drop visited (visits_before_fault source)) ≡ pass.count + count_to_next (reached (left pass))
-      pub bound : pass.count ≤ visit_limit
-      pub visited_bound : visited ≤ visit_limit
+      pub bound : pass.count ≤ VISIT_LIMIT
+      pub visited_bound : visited ≤ VISIT_LIMIT

@@ -7,7 +7,8 @@ use Rattle.tal_words.specs.declared.fault.AsmStop.{AsmStop}
 use Rattle.tal_words.specs.declared.fault.AsmStop.TheVariants.{Refused, NoMemory}
 use Rattle.tal_words.specs.Order.{collected}
 use Rattle.tal_words.specs.Faults.{Validated, least}
-use Rattle.tal_macros.specs.Expansion.{Part, Plain, Head, Inside, Visited, depth_limit, visit_kinds, known_at, visits, visit_list}
+use Rattle.uxn_limits.specs.declared.limits.TheConstants.{MACRO_DEPTH}
+use Rattle.tal_macros.specs.Expansion.{Part, Plain, Head, Inside, Visited, visit_kinds, known_at, visits, visit_list}
 use Rattle.tal_macros.specs.Expansion.{validated_part, parts_of, expansion_fault, without_uses}
 
 -- a step of the expansion: what is validated there, and the word of the visit list that it visits, unless it is of a head
@@ -28,7 +29,7 @@ head_steps words = map (λ word. record { validated = word; visit = None }) word
 -- the steps of a part, by the parts before it
 abbrev pub steps_given : List ℕ → List Part → Part → List Part → List ExpansionStep
 steps_given source before (Plain word) after =
-    visit_steps (length (visit_list source before)) (visits source (known_at source before) word depth_limit word)
+    visit_steps (length (visit_list source before)) (visits source (known_at source before) word MACRO_DEPTH word)
 steps_given source before (Head word body) after = head_steps (validated_part source before (Head word body) after)
 steps_given source before (Inside word) after = head_steps (validated_part source before (Inside word) after)
 

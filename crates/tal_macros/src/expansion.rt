@@ -6,7 +6,8 @@ ghost use Rattle.tal_words.specs.Order.{collected};
 ghost use Rattle.tal_words.specs.Faults.{Gives};
 ghost use Rattle.tal_words.specs.Comments.{words_of};
 ghost use Rattle.tal_macros.specs.Expansion.{Visited, expanded_of, expansion_fault, validated_part, visit_list, parts_of};
-ghost use Rattle.tal_macros.specs.Expansion.{without_uses, visit_limit};
+ghost use Rattle.uxn_limits.specs.declared.limits.TheConstants.{VISIT_LIMIT};
+ghost use Rattle.tal_macros.specs.Expansion.{without_uses};
 ghost use Rattle.tal_macros.specs.Steps.{Progress, steps_given, given, next_word, words_left, visits_before_fault, advanced};
 ghost use Rattle.tal_macros.specs.Steps.{NextGives, progress_after};
 
@@ -59,7 +60,7 @@ impl<'a> Expander<'a> {
     pub fn next(&mut self) -> Result<Option<Expanded>, AsmStop>
         ensures answer { NextGives self.old result }
         ensures progress { self.new ≡ progress_after self.old result }
-        ensures bound { self.new.visited ≤ visit_limit }
+        ensures bound { self.new.visited ≤ VISIT_LIMIT }
     {
         loop {
             match self.pass.turn(self.alloc, self.source, self.words) {
@@ -81,10 +82,10 @@ impl<'a> Expander<'a> {
         }
     }
 
-    /// How many words of the visit list were given, or opened as uses, so far: at most 1,000,000.
+    /// How many words of the visit list were given, or opened as uses, so far: at most `VISIT_LIMIT`.
     pub fn visited(&self) -> u32
         ensures value { result ≡ self.now.visited }
-        ensures bound { result ≤ visit_limit }
+        ensures bound { result ≤ VISIT_LIMIT }
     {
         self.visited
     }
@@ -110,12 +111,12 @@ pub fn expanders_give_the_list()
 {}
 
 /// The expanded list of a source, which has these words: the words outside the heads of macros, with
-/// what its body gives in the place of each use: at most 1,000,000. Refused with the first fault of a
+/// what its body gives in the place of each use: at most `VISIT_LIMIT`. Refused with the first fault of a
 /// head or a use.
 pub fn expand(alloc: Global, source: &[u8], words: &[Word]) -> Result<Vec<Expanded>, AsmStop>
     requires { words.now ≡ words_of source.now }
     ensures value { Gives (λ v. v.items) result (expansion_fault source.now) (expanded_of source.now) }
-    ensures few { IfOk result (λ v. length v.items ≤ visit_limit) }
+    ensures few { IfOk result (λ v. length v.items ≤ VISIT_LIMIT) }
 {
     let mut expander = Expander::new(alloc, source, words);
     let mut expanded = Vec::new(alloc);

@@ -2,7 +2,8 @@
 
 ghost use Rattle.std.specs.Prelude.{◌≡◌, ◌+◌, ◌-◌, ◌<◌, [], ◌∷◌, length, is_some, true, None};
 ghost use Rattle.tal_words.specs.Faults.{least};
-ghost use Rattle.tal_macros.specs.Expansion.{Visited, depth_limit, visit_limit, visit_kinds};
+ghost use Rattle.uxn_limits.specs.declared.limits.TheConstants.{MACRO_DEPTH, VISIT_LIMIT};
+ghost use Rattle.tal_macros.specs.Expansion.{Visited, visit_kinds};
 ghost use Rattle.tal_macros.specs.Bodies.{body_words};
 ghost use Rattle.tal_macros.specs.Passing.{TurnGives};
 
@@ -12,12 +13,7 @@ use arrayvec::ArrayVec;
 use indexmap::IndexMap;
 use std::alloc::Global;
 use tal_words::{AsmStop, Expanded, Fault, FaultKind, Span, Word, begins};
-
-/// How deep a use may stand.
-const DEPTH_LIMIT: usize = 32;
-
-/// How many words may be visited.
-const VISIT_LIMIT: u32 = 1_000_000;
+use uxn_limits::limits::{MACRO_DEPTH, VISIT_LIMIT};
 
 /// What a step of the pass came to.
 pub enum Turn {
@@ -40,7 +36,7 @@ pub struct Pass {
     /// The words that are visited now: those of the innermost use, or a word outside heads by itself.
     body: Body,
     /// What is left behind each open use, the outermost first.
-    outer: ArrayVec<Body, DEPTH_LIMIT>,
+    outer: ArrayVec<Body, MACRO_DEPTH>,
     /// The word of the source that is visited.
     origin: Word,
     /// How many words were visited.
@@ -114,10 +110,10 @@ impl Pass {
 
     /// What is wrong with a word of the body that names this body.
     fn visit_fault(&self, used: Option<Body>) -> Option<FaultKind>
-        ensures kind { (word : Visited) → word.is_use ≡ is_some used → word.room ≡ depth_limit - length self.now.outer.items
+        ensures kind { (word : Visited) → word.is_use ≡ is_some used → word.room ≡ MACRO_DEPTH - length self.now.outer.items
             → result ≡ least (visit_kinds self.now.count word) }
-        ensures room { result ≡ None → is_some used ≡ true → length self.now.outer.items < depth_limit }
-        ensures few { result ≡ None → self.now.count < visit_limit }
+        ensures room { result ≡ None → is_some used ≡ true → length self.now.outer.items < MACRO_DEPTH }
+        ensures few { result ≡ None → self.now.count < VISIT_LIMIT }
     {
         if used.is_some() && self.outer.is_full() {
             Some(FaultKind::MacroDeep)

@@ -1,55 +1,24 @@
 -- The words of a source as entries, the word that a placer gives next, and what a patch holds with it.
-use Rattle.std.proofs.Common.{◌≡◌, ℕ, zero, suc, ◌+◌, ◌<◌, ◌≤◌, ◌⊎◌, inl, inr, Bool, true, false, not, ◌&&◌, List, [], ◌∷◌, ◌++◌, length, get_or, map}
-use Rattle.std.proofs.Common.{take, Option, Some, None, Ok, Err, Result, cond, refl, sym, ◌∙◌, ap, arith, append_assoc, append-nil, length-append}
-use Rattle.std.specs.Prelude.{is_some, OnOk}
-use Rattle.std.specs.Option.{option_map}
-use Rattle.std.specs.List.{AllByRecursion, flat_map, list_any}
-use Rattle.std.specs.Str.{bytes_eq}
+use Rattle.tal_rom.proofs.Common.{◌≡◌, ℕ, zero, suc, ◌+◌, ◌<◌, ◌≤◌, ◌⊎◌, inl, inr, Bool, true, false, not, ◌&&◌, List, [], ◌∷◌, ◌++◌, length, get_or}
+use Rattle.tal_rom.proofs.Common.{map, take, Option, Some, None, Ok, Err, Result, cond, refl, sym, ◌∙◌, ap, arith, append_assoc, append-nil}
+use Rattle.tal_rom.proofs.Common.{length-append, is_some, option_map, AllByRecursion, flat_map, list_any, bytes_eq, eqb-true, or_cases}
+use Rattle.tal_rom.proofs.Common.{and_parts, nat_tests, list_any-append, fold_push, Expanded, Label, FaultKind, Form, LabelDef, SubDef, Refer}
+use Rattle.tal_rom.proofs.Common.{LambdaEnd, Rune, opens, closes, least, form, size, encoded, address_named, first_scope, full_name, name_after_rune}
+use Rattle.tal_rom.proofs.Common.{rune_of, each, collected, last_of, expanded_text, is_only, all_joined, no_word, last_of-more, each-more}
+use Rattle.tal_rom.proofs.Common.{fault-behind, fault_or-none, PlacedWord, address_after, next_scope, label_of, defined_name, labels_of, scope_after}
+use Rattle.tal_rom.proofs.Common.{is_mark_form, formed_size, is_defined, ends_given, ends_of, ends_above, validated_place, placed_with, placed_given}
+use Rattle.tal_rom.proofs.Common.{placed_of, shape_added, adding_kinds, validated_added, added_fault, open_word, given_word, word_added, open_given}
+use Rattle.tal_rom.proofs.Common.{open_ones, closed_at, closed_labels, closed_opener, length-collected, none_since, IsWellPlaced, well_placed}
+use Rattle.tal_rom.proofs.Common.{scope_after-append, labels_of-append, least-none, or_false, Hole, Patch, is_definition, is_reference, scope_behind}
+use Rattle.tal_rom.proofs.Common.{added_given, added_of, PatchEntry, PatchHolds, HoldsAll, ComesNext, WasGiven, new_entry, added_by, brace_hole}
+use Rattle.tal_rom.proofs.Common.{span_of_entry, IsBelow, closed_or, closed_last, patch_entry, entries_from, scope_from}
 use Rattle.std.proofs.Math.Dec.{ltb}
-use Rattle.std.proofs.lemmas.Bool.{eqb-true, or_cases, and_parts}
-use Rattle.std.proofs.lemmas.Bool.Decides.{nat_tests}
-use Rattle.std.proofs.lemmas.List.Folds.{list_any-append}
-use Rattle.std.proofs.lemmas.List.Sums.{fold_push}
-use Rattle.tal_words.specs.declared.span.Expanded.{Expanded}
-use Rattle.tal_words.specs.declared.name.Label.{Label}
-use Rattle.tal_words.specs.declared.fault.FaultKind.{FaultKind}
-use Rattle.tal_words.specs.declared.form.Form.{Form}
-use Rattle.tal_words.specs.declared.form.Form.TheVariants.{LabelDef, SubDef, Refer, LambdaEnd}
-use Rattle.tal_words.specs.declared.form.Rune.{Rune}
 use Rattle.tal_words.specs.declared.form.Rune.TheVariants.{Jsi}
-use Rattle.tal_words.specs.Braces.{opens, closes}
-use Rattle.tal_words.specs.Faults.{least}
-use Rattle.tal_words.specs.Forms.{form, size, encoded}
-use Rattle.tal_words.specs.Labels.{address_named}
-use Rattle.tal_words.specs.Names.{first_scope, full_name, name_after_rune, rune_of}
-use Rattle.tal_words.specs.Order.{each, collected, last_of}
-use Rattle.tal_words.specs.Source.{expanded_text, is_only}
-use Rattle.tal_words.proofs.BlankFree.{all_joined}
-use Rattle.tal_words.proofs.OrderLemmas.{no_word, last_of-more, each-more}
-use Rattle.tal_words.proofs.PassLemmas.{fault-behind, fault_or-none}
-use Rattle.tal_labels.specs.declared.placed.PlacedWord.{PlacedWord}
-use Rattle.tal_labels.specs.Places.{address_after}
-use Rattle.tal_labels.specs.Answers.{next_scope, label_of}
-use Rattle.tal_labels.specs.Labels.{defined_name, labels_of, scope_after}
 use Rattle.tal_labels.specs.Shapes.{closing_distance}
-use Rattle.tal_labels.specs.Placing.{is_mark_form, formed_size, is_defined, ends_given, ends_of, ends_above, validated_place}
-use Rattle.tal_labels.specs.Placing.{placed_with, placed_given, placed_of}
-use Rattle.tal_labels.specs.Adding.{shape_added, adding_kinds, validated_added, added_fault, open_word, given_word, word_added, open_given, open_ones}
-use Rattle.tal_labels.specs.Placers.{closed_at, closed_labels, closed_opener}
 use Rattle.tal_labels.proofs.AddingLemmas.{formed-added, added-prefix}
-use Rattle.tal_labels.proofs.CallerLemmas.{length-collected}
 use Rattle.tal_labels.proofs.ClosingLemmas.{opens-closes}
-use Rattle.tal_labels.proofs.IndexLemmas.{none_since}
 use Rattle.tal_labels.proofs.KeptLemmas.{placed_next}
-use Rattle.tal_labels.proofs.LayingLemmas.{IsWellPlaced, well_placed, scope_after-append, labels_of-append, least-none, or_false}
 use Rattle.tal_labels.proofs.PlacedLemmas.{form-closes}
-use Rattle.tal_rom.specs.declared.hole.Hole.{Hole}
-use Rattle.tal_rom.specs.declared.patch.Patch.{Patch}
-use Rattle.tal_rom.specs.Filling.{is_definition, is_reference}
-use Rattle.tal_rom.specs.References.{scope_behind}
-use Rattle.tal_rom.specs.Patching.{added_given, added_of}
-use Rattle.tal_rom.specs.Patchers.{PatchEntry, PatchHolds, HoldsAll, ComesNext, WasGiven, new_entry, added_by, brace_hole, span_of_entry, IsBelow}
-use Rattle.tal_rom.specs.Patchers.{closed_or, closed_last, patch_entry, entries_from, scope_from}
 use Rattle.tal_rom.proofs.Laying.{some_bytes, behind_more}
 use Rattle.tal_rom.proofs.Holding.{holds_more, IsPut, put_more, no_hole, nothing_left, both_nil}
 
@@ -103,10 +72,6 @@ opener_none opening openers = grind arith
 closed_later : (address : ℕ) (entry : PatchEntry) (entries closed : List PatchEntry) (holes own : List Hole) → 0 < length holes
     → closed_or address entry entries closed holes own ≡ entry ∷ closed
 closed_later address entry entries closed holes own some = grind arith
-
-pub on_ok : {T E P Q : Type 0} (r : Result T E) → (P → Q) → OnOk r P → OnOk r Q
-on_ok (Ok x) f h = f h
-on_ok (Err x) f h = tt
 
 module _ (source : List ℕ) where
   abbrev text : PlacedWord → List ℕ

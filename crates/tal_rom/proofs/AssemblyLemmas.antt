@@ -1,24 +1,11 @@
 -- The phases of a source.
-use Rattle.std.proofs.Common.{◌≡◌, ℕ, ◌+◌, ◌<◌, ◌≤◌, true, List, [], length, get_or, Option, Some, None, Err, refl, sym, ◌∙◌, ap, arith}
-use Rattle.std.proofs.lemmas.Bool.{false_from_ne_true}
-use Rattle.tal_words.specs.declared.fault.Fault.{Fault}
+use Rattle.tal_rom.proofs.Common.{◌≡◌, ℕ, ◌+◌, ◌<◌, ◌≤◌, true, List, [], length, get_or, Option, Some, None, Err, refl, sym, ◌∙◌, ap, arith}
+use Rattle.tal_rom.proofs.Common.{false_from_ne_true, Fault, Label, expanded_text, Expanded, Gives, or_later, length-encoded, get_or-each, expanded_of}
+use Rattle.tal_rom.proofs.Common.{expansion_fault, PlacedWord, Layout, layout_of, LieApart, place_fault, place_fault-none, lie_apart, reference_fault}
+use Rattle.tal_rom.proofs.Common.{Piece, covers, piece_given, pieces_of, rom_image, CoverOnce, first_fault, layout, rom_of, IsAssembled}
 use Rattle.tal_words.specs.declared.fault.AsmStop.{AsmStop}
 use Rattle.tal_words.specs.declared.fault.AsmStop.TheVariants.{Refused, NoMemory}
-use Rattle.tal_words.specs.declared.name.Label.{Label}
-use Rattle.tal_words.specs.Source.{expanded_text}
-use Rattle.tal_words.specs.declared.span.Expanded.{Expanded}
-use Rattle.tal_words.specs.Faults.{Gives, or_later}
 use Rattle.tal_words.specs.Comments.{word_fault}
-use Rattle.tal_words.proofs.FormLemmas.{length-encoded}
-use Rattle.tal_words.proofs.OrderLemmas.{get_or-each}
-use Rattle.tal_macros.specs.Expansion.{expanded_of, expansion_fault}
-use Rattle.tal_labels.specs.declared.placed.PlacedWord.{PlacedWord}
-use Rattle.tal_labels.specs.Placing.{Layout, layout_of, LieApart, place_fault}
-use Rattle.tal_labels.proofs.CallerLemmas.{place_fault-none, lie_apart}
-use Rattle.tal_rom.specs.References.{reference_fault}
-use Rattle.tal_rom.specs.Rom.{Piece, covers, piece_given, pieces_of, rom_image}
-use Rattle.tal_rom.specs.Answers.{CoverOnce}
-use Rattle.tal_rom.specs.Assembly.{first_fault, layout, rom_of, IsAssembled}
 use Rattle.tal_rom.proofs.Covering.{covers-true}
 use Rattle.tal_rom.proofs.Laying.{no_placed_word}
 

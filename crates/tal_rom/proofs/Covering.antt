@@ -1,18 +1,13 @@
 -- The bytes of words that lie one behind the other.
-use Rattle.std.proofs.Common.{◌≡◌, ℕ, ◌+◌, ◌-◌, ◌<◌, ◌≤◌, true, false, None, Some, List, [], ◌∷◌, ◌++◌, length, get_or}
-use Rattle.std.proofs.Common.{replicate, cond, ◌⊎◌, inl, inr, refl, ◌∙◌, arith, length-append, find}
-use Rattle.std.proofs.Math.Seq.{get_or-append_right}
-use Rattle.std.proofs.lemmas.Bool.Decides.{nat_tests}
-use Rattle.std.proofs.lemmas.List.{get_or_append_left, get_or_past, get_or-replicate, length-replicate}
-use Rattle.std.proofs.lemmas.List.Folds.{find-append}
-use Rattle.tal_rom.specs.Rom.{Piece, covers, byte_of_piece, byte_at}
-use Rattle.tal_rom.specs.Answers.{filled}
+use Rattle.tal_rom.proofs.Common.{◌≡◌, ℕ, ◌+◌, ◌-◌, ◌<◌, ◌≤◌, true, false, None, Some, List, [], ◌∷◌, ◌++◌, length, get_or, replicate, cond, ◌⊎◌, inl}
+use Rattle.tal_rom.proofs.Common.{inr, refl, ◌∙◌, arith, length-append, find, get_or-append_right, nat_tests, get_or_append_left, get_or_past}
+use Rattle.tal_rom.proofs.Common.{get_or-replicate, length-replicate, find-append, Piece, covers, byte_of_piece, byte_at, rom_limit, filled}
 
 -- the bytes so far are those of the first words, and none of these lies behind them
 pub record IsLaid (pieces : List Piece) (rom : List ℕ) : Type 0 where
   pub each : (i : ℕ) → get_or rom i 0 ≡ byte_at pieces (256 + i)
   pub above : (address : ℕ) → 256 + length rom ≤ address → find (covers address) pieces ≡ None
-  pub within : length rom ≤ 65280
+  pub within : length rom ≤ rom_limit
 
 -- a word covers the addresses of its bytes, and none before or past them
 pub covers-true : (address : ℕ) (piece : Piece) → covers address piece ≡ true

@@ -1,32 +1,14 @@
 -- What a patch holds, with one word more and where targets become known.
-use Rattle.std.proofs.Common.{◌≡◌, ℕ, ◌+◌, ◌-◌, ◌<◌, Bool, true, false, not, ◌&&◌, ◌||◌, List, [], ◌∷◌, ◌++◌, length, map}
-use Rattle.std.proofs.Common.{Option, Some, None, cond, refl, sym, ◌∙◌, ap, arith, append-nil, length-append}
-use Rattle.std.specs.Prelude.{fold, is_some}
-use Rattle.std.specs.Option.{option_or, option_map}
-use Rattle.std.specs.List.{filter, flat_map, list_any, list_all}
-use Rattle.std.specs.Str.{bytes_eq}
+use Rattle.tal_rom.proofs.Common.{◌≡◌, ℕ, ◌+◌, ◌-◌, ◌<◌, Bool, true, false, not, ◌&&◌, ◌||◌, List, [], ◌∷◌, ◌++◌, length, map, Option, Some, None}
+use Rattle.tal_rom.proofs.Common.{cond, refl, sym, ◌∙◌, ap, arith, append-nil, length-append, fold, is_some, option_or, option_map, filter, flat_map}
+use Rattle.tal_rom.proofs.Common.{list_any, list_all, bytes_eq, map-append, length-map, list_any-append, find-append, count_by-le-length}
+use Rattle.tal_rom.proofs.Common.{length-filter, bytes_eq-Decides, Label, Form, Text, Refer, Rune, opens, encoded, reaches, address_named, Hole, Patch}
+use Rattle.tal_rom.proofs.Common.{known_in, wanted_in, byte_at, overlaid, filled_hole, is_reference, Added, waits, is_far, known_piece, PatchEntry}
+use Rattle.tal_rom.proofs.Common.{PatchHolds, ComesNext, new_entry, added_by, holes_by, name_hole, brace_hole, added_span, span_of_entry, AreAscending}
+use Rattle.tal_rom.proofs.Common.{closed_or, closed_last}
 use Rattle.std.proofs.Math.Bool.{and-true, and-false}
-use Rattle.std.proofs.lemmas.List.{map-append, length-map}
 use Rattle.std.proofs.lemmas.List.Concat.{flat_map-append}
 use Rattle.std.proofs.lemmas.List.Elements.{filter-append}
-use Rattle.std.proofs.lemmas.List.Folds.{list_any-append, find-append}
-use Rattle.std.proofs.lemmas.List.Sums.{count_by-le-length, length-filter}
-use Rattle.std.proofs.lemmas.Slice.Eq.{bytes_eq-Decides}
-use Rattle.tal_words.specs.declared.name.Label.{Label}
-use Rattle.tal_words.specs.declared.form.Form.{Form}
-use Rattle.tal_words.specs.declared.form.Form.TheVariants.{Text, Refer}
-use Rattle.tal_words.specs.declared.form.Rune.{Rune}
-use Rattle.tal_words.specs.Braces.{opens}
-use Rattle.tal_words.specs.Forms.{encoded, reaches}
-use Rattle.tal_words.specs.Labels.{address_named}
-use Rattle.tal_rom.specs.declared.hole.Hole.{Hole}
-use Rattle.tal_rom.specs.declared.patch.Patch.{Patch}
-use Rattle.tal_rom.specs.Holes.{known_in, wanted_in}
-use Rattle.tal_rom.specs.Rom.{byte_at}
-use Rattle.tal_rom.specs.Filling.{overlaid, filled_hole, is_reference}
-use Rattle.tal_rom.specs.Patching.{Added, waits, is_far, known_piece}
-use Rattle.tal_rom.specs.Patchers.{PatchEntry, PatchHolds, ComesNext, new_entry, added_by, holes_by, name_hole, brace_hole, added_span, span_of_entry}
-use Rattle.tal_rom.specs.Patchers.{AreAscending, closed_or, closed_last}
 use Rattle.tal_rom.proofs.Moving.{length-overlaid, Settles, nothing, stays, fills, fewer_wait, fit_too, hole_filled, filled_read}
 use Rattle.tal_rom.proofs.Moving.{ascending_push, pushed_read}
 

@@ -1,29 +1,10 @@
 -- The loop over the words with their addresses.
-use Rattle.std.proofs.Common.{◌≡◌, ℕ, ◌+◌, ◌<◌, ◌≤◌, List, [], ◌∷◌, ◌++◌, Ok, length, take, drop, get_or, map}
-use Rattle.std.proofs.Common.{Option, Some, None, refl, sym, ◌∙◌, ap, arith}
-use Rattle.std.specs.Prelude.{unwrap_or}
-use Rattle.std.proofs.lemmas.List.{take_more, take_all, map-append}
-use Rattle.tal_words.specs.declared.form.Form.{Form}
-use Rattle.tal_words.specs.declared.form.Form.TheVariants.{Pad, Refer}
-use Rattle.tal_words.specs.declared.form.Rune.{Rune}
-use Rattle.tal_words.specs.declared.fault.FaultKind.{FaultKind}
-use Rattle.tal_words.specs.declared.name.Label.{Label}
-use Rattle.tal_words.specs.Order.{each}
-use Rattle.tal_words.specs.Source.{expanded_text}
-use Rattle.tal_words.specs.Faults.{least, fault_at, phase_fault}
-use Rattle.tal_words.specs.Forms.{form, size, reference_size, encoded}
-use Rattle.tal_words.specs.Names.{first_scope}
-use Rattle.tal_words.proofs.FormLemmas.{length-encoded}
-use Rattle.tal_words.proofs.OrderLemmas.{each-end, each-more, no_word}
-use Rattle.tal_words.proofs.PassLemmas.{fault-here, fault-later}
-use Rattle.tal_labels.specs.declared.placed.PlacedWord.{PlacedWord}
-use Rattle.tal_labels.specs.Answers.{next_scope}
-use Rattle.tal_labels.specs.Labels.{scope_after}
-use Rattle.tal_labels.specs.Placing.{LiesInMemory, LieApart}
-use Rattle.tal_labels.proofs.LayingLemmas.{scope_after-append}
-use Rattle.tal_rom.specs.Answers.{filled, HasAddress, AreBytesOf}
-use Rattle.tal_rom.specs.References.{target_in, reference_kinds, scope_behind, target_of, validated_reference, reference_fault}
-use Rattle.tal_rom.specs.Rom.{Piece, byte_at, piece_given, pieces_of, rom_image, trimmed}
+use Rattle.tal_rom.proofs.Common.{◌≡◌, ℕ, ◌+◌, ◌<◌, ◌≤◌, List, [], ◌∷◌, ◌++◌, Ok, length, take, drop, get_or, map, Option, Some, None, refl, sym, ◌∙◌}
+use Rattle.tal_rom.proofs.Common.{ap, arith, unwrap_or, take_more, take_all, map-append, Form, Pad, Refer, Rune, FaultKind, Label, each, expanded_text}
+use Rattle.tal_rom.proofs.Common.{least, fault_at, phase_fault, form, size, reference_size, encoded, first_scope, length-encoded, each-end, each-more}
+use Rattle.tal_rom.proofs.Common.{no_word, fault-here, fault-later, PlacedWord, next_scope, scope_after, LiesInMemory, LieApart, scope_after-append}
+use Rattle.tal_rom.proofs.Common.{filled, HasAddress, AreBytesOf, target_in, reference_kinds, scope_behind, target_of, validated_reference}
+use Rattle.tal_rom.proofs.Common.{reference_fault, Piece, byte_at, piece_given, pieces_of, rom_image, trimmed, rom_limit}
 use Rattle.tal_rom.proofs.Trimming.{trimmed-image}
 use Rattle.tal_rom.proofs.Covering.{IsLaid, length-filled, next_laid, nothing_laid}
 
@@ -120,4 +101,4 @@ all_laid source labels words k rom scope past so =
 -- the bytes of all words, without the zeros at their end, are the ROM
 pub rom_of-held : (pieces : List Piece) (rom : List ℕ) → AreBytesOf pieces rom → trimmed rom ≡ rom_image pieces
 unfolding rom_image
-rom_of-held pieces rom held = trimmed-image (λ i. byte_at pieces (256 + i)) 65280 rom held.within held.each
+rom_of-held pieces rom held = trimmed-image (λ i. byte_at pieces (256 + i)) rom_limit rom held.within held.each

@@ -1,3 +1,4 @@
+pub mod Common
 pub mod Trimming
 pub mod Covering
 pub mod Laying
@@ -7,7 +8,5 @@ pub mod Moving
 pub mod Holding
 pub mod NameLemmas
 pub mod AddedLemmas
-pub mod ImageLemmas
 pub mod PatchedLemmas
 pub mod OnePass
-pub mod Zeros

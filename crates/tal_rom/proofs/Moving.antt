@@ -1,21 +1,10 @@
 -- Bytes that are laid over others in memory, and references that get their target among words that stay as they are.
-use Rattle.std.proofs.Common.{◌≡◌, ℕ, ◌+◌, ◌<◌, ◌≤◌, Bool, true, false, not, ◌&&◌, List, [], ◌∷◌, ◌++◌, length, get_or, map}
-use Rattle.std.proofs.Common.{Option, Some, None, cond, find, refl, ◌∙◌, arith}
-use Rattle.std.specs.Prelude.{slice_set, fold, unwrap_or}
-use Rattle.std.specs.List.{AllByRecursion, filter, list_any, list_all}
-use Rattle.std.proofs.lemmas.Bool.Decides.{nat_tests}
-use Rattle.std.proofs.lemmas.List.{map-append, length-set, get_or-set_other}
+use Rattle.tal_rom.proofs.Common.{◌≡◌, ℕ, ◌+◌, ◌<◌, ◌≤◌, Bool, true, false, not, ◌&&◌, List, [], ◌∷◌, ◌++◌, length, get_or, map, Option, Some, None}
+use Rattle.tal_rom.proofs.Common.{cond, find, refl, ◌∙◌, arith, slice_set, fold, unwrap_or, AllByRecursion, filter, list_any, list_all, nat_tests}
+use Rattle.tal_rom.proofs.Common.{map-append, length-set, get_or-set_other, Refer, Rune, size, reaches, all_joined, length-encoded, Hole, Piece}
+use Rattle.tal_rom.proofs.Common.{covers, byte_of_piece, overlaid, filled_hole, Added, waits, is_far, known_piece, added_span, IsAbove, IsBelow}
+use Rattle.tal_rom.proofs.Common.{AreAscending}
 use Rattle.std.proofs.lemmas.Grind.{get_or-set_at, get_or_head, get_or_tail}
-use Rattle.tal_words.specs.declared.form.Form.TheVariants.{Refer}
-use Rattle.tal_words.specs.declared.form.Rune.{Rune}
-use Rattle.tal_words.specs.Forms.{size, reaches}
-use Rattle.tal_words.proofs.BlankFree.{all_joined}
-use Rattle.tal_words.proofs.FormLemmas.{length-encoded}
-use Rattle.tal_rom.specs.declared.hole.Hole.{Hole}
-use Rattle.tal_rom.specs.Rom.{Piece, covers, byte_of_piece}
-use Rattle.tal_rom.specs.Filling.{overlaid, filled_hole}
-use Rattle.tal_rom.specs.Patching.{Added, waits, is_far, known_piece}
-use Rattle.tal_rom.specs.Patchers.{added_span, IsAbove, IsBelow, AreAscending}
 use Rattle.tal_rom.proofs.Covering.{covers-true, covers-past, covers-before, read_over, read_of, read_first, more_over}
 use Rattle.tal_rom.proofs.Laying.{some_bytes}
 

@@ -1,13 +1,8 @@
 -- Full names with what is known of them, after a change.
-use Rattle.std.proofs.Common.{◌≡◌, ℕ, false, List, [], ◌∷◌, ◌++◌, Option, Some, cond, refl, arith, append-nil}
-use Rattle.std.specs.Global.{Vec}
-use Rattle.std.specs.Str.{bytes_eq}
+use Rattle.tal_rom.proofs.Common.{◌≡◌, ℕ, false, List, [], ◌∷◌, ◌++◌, Option, Some, cond, refl, arith, append-nil, Vec, bytes_eq, vec_eq, Hole, Named}
+use Rattle.tal_rom.proofs.Common.{known_address, wanted_of}
 use Rattle.std.specs.Map.{lookup, set_value}
 use Rattle.indexmap.specs.IndexMap.{insert_entry}
-use Rattle.tal_labels.proofs.IndexLemmas.{vec_eq}
-use Rattle.tal_rom.specs.declared.hole.Hole.{Hole}
-use Rattle.tal_rom.specs.declared.hole.Named.{Named}
-use Rattle.tal_rom.specs.Holes.{known_address, wanted_of}
 use Rattle.tal_rom.proofs.Holding.{same_text}
 
 abbrev pub Entries : Type 0

@@ -1,19 +1,9 @@
 -- Where all words are added: what waits, what does not fit, and the ROM.
-use Rattle.std.proofs.Common.{◌≡◌, ℕ, ◌+◌, true, false, not, List, [], ◌∷◌, ◌++◌, length, map, Option, None, refl, ap, arith}
-use Rattle.std.specs.List.{filter, list_any, range_with_len}
-use Rattle.tal_words.specs.declared.fault.Fault.{Fault}
-use Rattle.tal_words.specs.declared.name.Label.{Label}
-use Rattle.tal_words.specs.declared.span.Expanded.{Expanded}
-use Rattle.tal_words.specs.declared.form.Form.{Form}
-use Rattle.tal_words.specs.Faults.{least, phase_fault}
-use Rattle.tal_words.specs.Order.{each}
-use Rattle.tal_words.proofs.PassLemmas.{fault_or-none}
-use Rattle.tal_labels.specs.declared.placed.PlacedWord.{PlacedWord}
-use Rattle.tal_labels.specs.Labels.{labels_of}
-use Rattle.tal_labels.specs.Placing.{placed_of}
-use Rattle.tal_rom.specs.References.{target_of, reference_kinds, validated_reference, reference_fault}
-use Rattle.tal_rom.specs.Rom.{byte_at, piece_given, pieces_of, rom_image, trimmed}
-use Rattle.tal_rom.specs.Patching.{Added, waits_by, waits, is_far_by, is_far, known_piece, added_given, added_of, waiting_count, all_fit, image_of}
+use Rattle.tal_rom.proofs.Common.{◌≡◌, ℕ, ◌+◌, true, false, not, List, [], ◌∷◌, ◌++◌, length, map, Option, None, refl, ap, arith, filter, list_any}
+use Rattle.tal_rom.proofs.Common.{range_with_len, Fault, Label, Expanded, Form, least, phase_fault, each, fault_or-none, PlacedWord, labels_of}
+use Rattle.tal_rom.proofs.Common.{placed_of, target_of, reference_kinds, validated_reference, reference_fault, byte_at, piece_given, pieces_of}
+use Rattle.tal_rom.proofs.Common.{rom_image, trimmed, rom_limit, Added, waits_by, waits, is_far_by, is_far, known_piece, added_given, added_of}
+use Rattle.tal_rom.proofs.Common.{waiting_count, all_fit, image_of}
 
 -- a word has no fault of its reference exactly where it neither waits nor is far
 one_none : (form : Form) (address : ℕ) (target : Option ℕ) → least (reference_kinds form address target) ≡ None
@@ -57,19 +47,15 @@ module _ (source : List ℕ) (labels : List Label) where
       rw (none_one placed.form placed.address _ parts.0 parts.1) (no_fault (before ++ placed ∷ []) words parts.2)
 
 module _ (source : List ℕ) (words : List Expanded) where
-  pub known_without : reference_fault source (labels_of source words) (placed_of source words) ≡ None
+  pub when_faultless : reference_fault source (labels_of source words) (placed_of source words) ≡ None
       → (waiting_count source words ≡ 0) × (all_fit source words ≡ true)
-  unfolding reference_fault waiting_count all_fit added_of
-  known_without e = (let known = all_known source (labels_of source words) [] (placed_of source words) e in (known.0, known.1))
+      × (trimmed (image_of source words) ≡ rom_image (pieces_of source (labels_of source words) (placed_of source words)))
+  unfolding reference_fault waiting_count all_fit image_of added_of pieces_of rom_image
+  when_faultless e =
+      let known = all_known source (labels_of source words) [] (placed_of source words) e in
+      (known.0, known.1, ap (λ pieces. trimmed (map (λ i. byte_at pieces (256 + i)) (range_with_len 0 rom_limit))) known.2)
 
   pub without_known : waiting_count source words ≡ 0 → all_fit source words ≡ true
       → reference_fault source (labels_of source words) (placed_of source words) ≡ None
   unfolding reference_fault waiting_count all_fit added_of
   without_known e f = no_fault source (labels_of source words) [] (placed_of source words) (e, f)
-
-  pub image_known : reference_fault source (labels_of source words) (placed_of source words) ≡ None
-      → trimmed (image_of source words) ≡ rom_image (pieces_of source (labels_of source words) (placed_of source words))
-  unfolding reference_fault image_of added_of pieces_of rom_image
-  image_known e =
-      ap (λ pieces. trimmed (map (λ i. byte_at pieces (256 + i)) (range_with_len 0 65280)))
-      (all_known source (labels_of source words) [] (placed_of source words) e).2

@@ -1,26 +1,9 @@
 -- The ROM of words that are opcodes, bytes and shorts, one behind the other.
-use Rattle.std.proofs.Common.{◌≡◌, ℕ, ◌+◌, ◌-◌, ◌≤◌, true, List, [], ◌∷◌, ◌++◌, length, get_or, map, Option, None, refl, ap, sym, ◌∙◌, arith}
-use Rattle.std.specs.List.{AllByRecursion}
-use Rattle.std.proofs.Math.Seq.{get_or-append_right}
-use Rattle.std.proofs.lemmas.Bool.Decides.{nat_tests}
-use Rattle.std.proofs.lemmas.List.{length-map, get_or_append_left}
-use Rattle.tal_words.specs.declared.span.Expanded.{Expanded}
-use Rattle.tal_words.specs.declared.form.Form.{Form}
-use Rattle.tal_words.specs.declared.form.Form.TheVariants.{Pad}
-use Rattle.tal_words.specs.declared.name.Label.{Label}
-use Rattle.tal_words.specs.Source.{expanded_text}
-use Rattle.tal_words.specs.Faults.{phase_fault}
-use Rattle.tal_words.specs.Forms.{size}
-use Rattle.tal_words.specs.Comments.{source_limit}
-use Rattle.tal_words.specs.Order.{each, collected}
-use Rattle.tal_macros.specs.Expansion.{expanded_of}
-use Rattle.tal_labels.specs.declared.placed.PlacedWord.{PlacedWord}
-use Rattle.tal_labels.specs.Places.{address_after}
-use Rattle.tal_labels.specs.Labels.{labels_of}
-use Rattle.tal_labels.specs.Placing.{lambda_address, placed_given, placed_of}
-use Rattle.tal_rom.specs.References.{target_of, reference_kinds, validated_reference, reference_fault}
-use Rattle.tal_rom.specs.Rom.{Piece, byte_at, piece_given, pieces_of, rom_image, trimmed}
-use Rattle.tal_rom.specs.Assembly.{layout, first_fault, rom_of}
+use Rattle.tal_rom.proofs.Common.{◌≡◌, ℕ, ◌+◌, ◌-◌, ◌≤◌, true, List, [], ◌∷◌, ◌++◌, length, get_or, map, Option, None, refl, ap, sym, ◌∙◌, arith}
+use Rattle.tal_rom.proofs.Common.{AllByRecursion, get_or-append_right, nat_tests, length-map, get_or_append_left, Expanded, Form, Pad, Label}
+use Rattle.tal_rom.proofs.Common.{expanded_text, phase_fault, size, TEXT_LIMIT, each, collected, expanded_of, PlacedWord, address_after, labels_of}
+use Rattle.tal_rom.proofs.Common.{lambda_address, placed_given, placed_of, target_of, reference_kinds, validated_reference, reference_fault, Piece}
+use Rattle.tal_rom.proofs.Common.{byte_at, piece_given, pieces_of, rom_image, trimmed, rom_limit, layout, first_fault, rom_of}
 use Rattle.tal_rom.proofs.Covering.{covers-past, read_over, read_of, read_first}
 use Rattle.tal_rom.proofs.Trimming.{trimmed-image}
 use Rattle.tal_words.specs.PlainTexts.{Item, AreItems, text_of_items, words_of_items}
@@ -88,20 +71,20 @@ pieces_read (coded ∷ codeds) count i =
     (read_append coded.bytes (bytes_of_coded codeds) count i _ (λ past.
     pieces_read codeds (count + size) (i - size) ∙ ap (λ n. read_of n (pieces_from (count + size) codeds)) (at past)))
 
-image_is : (coded : List Coded) → length (bytes_of_coded coded) ≤ 65280
+image_is : (coded : List Coded) → length (bytes_of_coded coded) ≤ rom_limit
     → rom_image (record { address = 256; bytes = [] } ∷ pieces_from 0 coded) ≡ trimmed (bytes_of_coded coded)
 unfolding rom_image byte_at
 image_is coded within =
     let pieces : List Piece = record { address = 256; bytes = [] } ∷ pieces_from 0 coded in
-    sym (trimmed-image (λ i. byte_at pieces (256 + i)) 65280 (bytes_of_coded coded) within (λ i.
+    sym (trimmed-image (λ i. byte_at pieces (256 + i)) rom_limit (bytes_of_coded coded) within (λ i.
     let start : 256 + 0 + i ≡ 256 + i = omega arith in
     rw (covers-past (256 + i) (record { address = 256; bytes = [] }) (λ some. omega arith))
     (pieces_read coded 0 i ∙ ap (λ n. read_of n (pieces_from 0 coded)) start)))
 
 -- a text of `|0100` and of such words assembles to their bytes
 module _ (items : List Item) (coded : List Coded) (sound : AreItems items) (are : words_of_items items ≡ pad_text ∷ texts_of_coded coded)
-    (stand : AllByRecursion RepresentsWord coded) (short : length (text_of_items items) ≤ source_limit)
-    (within : length (bytes_of_coded coded) ≤ 65280) where
+    (stand : AllByRecursion RepresentsWord coded) (short : length (text_of_items items) ≤ TEXT_LIMIT)
+    (within : length (bytes_of_coded coded) ≤ rom_limit) where
   abbrev source : List ℕ
   source = text_of_items items
 

@@ -1,9 +1,8 @@
-use Rattle.std.proofs.Common.{◌≡◌, ◌≢◌, ℕ, suc, ◌-◌, ◌<◌, ◌≤◌, List, [], ◌∷◌, length, take, get_or, map, refl, sym, ◌∙◌, ap, arith, length-take}
-use Rattle.std.proofs.lemmas.Bool.{ne_eqb}
-use Rattle.std.proofs.lemmas.List.{get_or_past, get_or-take}
-use Rattle.std.proofs.lemmas.List.FromFn.{get_or-map-range_with_len, length-map-range_with_len}
-use Rattle.std.specs.List.{range_with_len}
-use Rattle.tal_rom.specs.Rom.{trimmed, before_trimmed}
+-- Bytes without the zeros at their end, zeros, and what stands in memory from an index on.
+use Rattle.tal_rom.proofs.Common.{◌≡◌, ◌≢◌, ℕ, suc, ◌-◌, ◌<◌, ◌≤◌, List, [], ◌∷◌, length, take, get_or, map, refl, sym, ◌∙◌, ap, arith, length-take}
+use Rattle.tal_rom.proofs.Common.{ne_eqb, get_or_past, get_or-take, get_or-map-range_with_len, length-map-range_with_len, range_with_len, trimmed}
+use Rattle.tal_rom.proofs.Common.{before_trimmed, zero, ◌++◌, drop, replicate, inl, inr, cases_lt, get_or-replicate, length-replicate}
+use Rattle.tal_rom.proofs.Common.{take-append-drop, ◌+◌, ext_get_or, get_or-drop, length-drop}
 
 -- lists that read the same, with zeros past their ends, are the same without the zeros at their ends
 pub trimmed-same : (xs ys : List ℕ) → ((i : ℕ) → get_or xs i 0 ≡ get_or ys i 0) → trimmed xs ≡ trimmed ys
@@ -39,3 +38,36 @@ pub trimmed-image : (f : ℕ → ℕ) (n : ℕ) (xs : List ℕ) → length xs �
 trimmed-image f n xs short each =
     trimmed-same xs (map f (range_with_len 0 n)) (λ i.
     grind (arith, get_or-map-range_with_len f 0 n i i 0, get_or_past, length-map-range_with_len f 0 n, each i))
+
+pub zeros_read : (count at : ℕ) → get_or (replicate {A = ℕ} count 0) at 0 ≡ 0
+zeros_read count at = elim (cases_lt at count) [
+  | inl within ↦ get_or-replicate count at 0 0 within
+  | inr past ↦ get_or_past (replicate count 0) at 0 (omega (arith, length-replicate {A = ℕ} count 0))
+]
+
+trimmed-zeros : (count : ℕ) → trimmed (replicate count 0) ≡ []
+unfolding trimmed
+trimmed-zeros zero = refl
+trimmed-zeros (suc count) = ap (before_trimmed 0) (trimmed-zeros count)
+
+trimmed-before : (bytes : List ℕ) (count : ℕ) → trimmed (bytes ++ replicate count 0) ≡ trimmed bytes
+unfolding trimmed
+trimmed-before [] count = trimmed-zeros count
+trimmed-before (byte ∷ bytes) count = ap (before_trimmed byte) (trimmed-before bytes count)
+
+-- bytes of which zeros at the end are taken away are trimmed to the same
+pub stripped : (bytes : List ℕ) (n count : ℕ) → drop n bytes ≡ replicate count 0 → trimmed (take n bytes) ≡ trimmed bytes
+stripped bytes n count e =
+    sym (trimmed-before (take n bytes) count)
+    ∙ ap (λ (zeros : List ℕ). trimmed (take n bytes ++ zeros)) (sym e)
+    ∙ ap trimmed (take-append-drop n bytes)
+
+-- what stands behind so many bytes, as the list of a function
+pub behind_is : (f : ℕ → ℕ) (start count : ℕ) (memory : List ℕ) → length memory ≡ start + count
+    → ((i : ℕ) → i < count → get_or memory (start + i) 0 ≡ f i)
+    → drop start memory ≡ map f (range_with_len 0 count)
+behind_is f start count memory size each =
+    let long : length (drop start memory) ≡ count = omega (arith, length-drop start memory, size) in
+    ext_get_or 0 (drop start memory) (map f (range_with_len 0 count)) (omega (arith, long, length-map-range_with_len f 0 count)) (λ i within.
+    let inside : i < count = omega (arith, long) in
+    get_or-drop start memory i 0 ∙ each i inside ∙ sym (get_or-map-range_with_len f 0 count i i 0 inside (omega arith)))

@@ -8,23 +8,23 @@ use Rattle.tal_words.specs.declared.form.Form.{Form}
 use Rattle.tal_words.specs.declared.form.Form.TheVariants.{Refer}
 use Rattle.tal_words.specs.declared.name.Label.{Label}
 use Rattle.tal_labels.specs.declared.placed.PlacedWord.{PlacedWord}
-use Rattle.tal_labels.specs.Places.{first_address, memory_end}
+use Rattle.uxn_limits.specs.declared.addresses.TheConstants.{FIRST_ADDRESS, MEMORY_END}
 use Rattle.tal_rom.specs.References.{reference_fault}
 use Rattle.tal_rom.specs.Rom.{Piece, byte_at, pieces_of, rom_limit, covers}
 
 -- the address of a reference lies in memory
 abbrev pub HasAddress : Form → ℕ → Type 0
-HasAddress (Refer rune) address = address < memory_end
+HasAddress (Refer rune) address = address < MEMORY_END
 HasAddress _ address = Unit {0}
 
 -- bytes from the address 0100 on, with the bytes of one more word behind them: zeros fill the gap up to its address
 abbrev pub filled : List ℕ → ℕ → List ℕ → List ℕ
 filled rom address [] = rom
-filled rom address (byte ∷ bytes) = rom ++ (replicate (address - (first_address + length rom)) 0 ++ (byte ∷ bytes))
+filled rom address (byte ∷ bytes) = rom ++ (replicate (address - (FIRST_ADDRESS + length rom)) 0 ++ (byte ∷ bytes))
 
 -- these bytes, from the address 0100 on, are those at their addresses, and none stands behind them
 pub record AreBytesOf (pieces : List Piece) (bytes : List ℕ) : Type 0 where
-  pub each : (i : ℕ) → slice_index bytes i ≡ byte_at pieces (first_address + i)
+  pub each : (i : ℕ) → slice_index bytes i ≡ byte_at pieces (FIRST_ADDRESS + i)
   pub within : length bytes ≤ rom_limit
 
 -- the answer is the bytes of the words, where their references have no fault

@@ -12,7 +12,8 @@ use Rattle.tal_words.specs.Faults.{Validated, fault_or, least, phase_fault, or_l
 use Rattle.tal_words.specs.Order.{each, collected}
 use Rattle.tal_words.specs.Source.{word_text, expanded_text}
 use Rattle.tal_words.specs.Forms.{form}
-use Rattle.tal_macros.specs.Expansion.{Macro, Part, Plain, Head, Inside, Visited, depth_limit, body_named, body_defined}
+use Rattle.uxn_limits.specs.declared.limits.TheConstants.{MACRO_DEPTH}
+use Rattle.tal_macros.specs.Expansion.{Macro, Part, Plain, Head, Inside, Visited, body_named, body_defined}
 use Rattle.tal_macros.specs.Expansion.{part_of, parts_from, head_length, known_at, visits, visits_given, visit_list}
 use Rattle.tal_macros.specs.Expansion.{without_uses, validated_visits, validated_part, parts_of, expanded_of, expansion_fault}
 use Rattle.tal_labels.specs.declared.placed.PlacedWord.{PlacedWord}
@@ -110,13 +111,13 @@ module _ (P : Word → Type 0) where
 
     given_of : (before : List Part) (part : Part) (after : List Part) → IsOfPart part
         → AllByRecursion IsOfVisit (visits_given source before part after)
-    given_of before (Plain word) after holds = visits_of (known_at source before) word depth_limit word holds
+    given_of before (Plain word) after holds = visits_of (known_at source before) word MACRO_DEPTH word holds
     given_of before (Head word body) after holds = tt
     given_of before (Inside word) after holds = tt
 
     part_validated : (before : List Part) (part : Part) (after : List Part) → IsOfPart part
         → AllByRecursion IsValidated (validated_part source before part after)
-    part_validated before (Plain word) after holds = visits_validated _ _ (visits_of (known_at source before) word depth_limit word holds)
+    part_validated before (Plain word) after holds = visits_validated _ _ (visits_of (known_at source before) word MACRO_DEPTH word holds)
     part_validated before (Head word body) after holds = (holds, tt)
     part_validated before (Inside word) after holds = (holds, tt)
 

@@ -1,6 +1,7 @@
 -- The pass over the words of a source: each goes from the expander to the placer, and from there to the patcher.
 use Rattle.std.specs.Prelude.{ℕ, ◌≡◌, ◌<◌, ◌≤◌, List, None}
-use Rattle.tal_macros.specs.Expansion.{expanded_of, expansion_fault, visit_limit}
+use Rattle.uxn_limits.specs.declared.limits.TheConstants.{VISIT_LIMIT}
+use Rattle.tal_macros.specs.Expansion.{expanded_of, expansion_fault}
 use Rattle.tal_macros.specs.Steps.{Progress, given}
 use Rattle.tal_labels.specs.declared.placer.Placer.{Placer}
 use Rattle.tal_labels.specs.Placers.{WereAdded}
@@ -12,7 +13,7 @@ use Rattle.tal_rom.specs.Patchers.{WerePatched}
 -- how far the pass has come: what the expander gave was added to the placer, and what that gave to the patcher
 pub record IsOnItsWay (source : List ℕ) (progress : Progress) (placer : Placer) (patcher : Patcher) : Type 0 where
   pub reads : progress.source ≡ source
-  pub bound : progress.visited ≤ visit_limit
+  pub bound : progress.visited ≤ VISIT_LIMIT
   pub added : WereAdded source (given progress) placer
   pub patched : WerePatched source (given progress) patcher
 

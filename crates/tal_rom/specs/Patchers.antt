@@ -1,16 +1,16 @@
 -- What a patcher represents.
-use Rattle.std.specs.Prelude.{◌≡◌, ◌<◌, ◌≤◌, ℕ, ◌+◌, zero, suc, Bool, true, false, not}
-use Rattle.std.specs.Prelude.{◌&&◌, if◌then◌else◌, List, [], ◌∷◌, ◌++◌, length, map, slice_index, slice_set, fold}
+use Rattle.std.specs.Prelude.{◌≡◌, ◌<◌, ◌≤◌, ℕ, ◌+◌, Bool, true, not}
+use Rattle.std.specs.Prelude.{◌&&◌, if◌then◌else◌, List, [], ◌∷◌, length, map, slice_index, fold}
 use Rattle.std.specs.Prelude.{Option, Some, None, is_some}
 use Rattle.std.specs.List.{AllByRecursion, filter, flat_map, list_any}
 use Rattle.std.specs.Str.{bytes_eq}
+use Rattle.uxn_limits.specs.declared.addresses.TheConstants.{MEMORY_END}
 use Rattle.tal_words.specs.declared.span.Expanded.{Expanded}
 use Rattle.tal_words.specs.declared.name.Label.{Label}
 use Rattle.tal_words.specs.declared.form.Form.{Form}
 use Rattle.tal_words.specs.declared.form.Form.TheVariants.{Refer}
-use Rattle.tal_words.specs.declared.form.Rune.{Rune}
 use Rattle.tal_words.specs.Braces.{opens}
-use Rattle.tal_words.specs.Forms.{size, encoded_reference, reaches}
+use Rattle.tal_words.specs.Forms.{size}
 use Rattle.tal_words.specs.Labels.{address_named}
 use Rattle.tal_words.specs.Names.{first_scope, full_name, name_after_rune}
 use Rattle.tal_words.specs.Source.{expanded_text}
@@ -87,7 +87,7 @@ AreAscending [] = Unit {0}
 AreAscending (span ∷ spans) = (0 < span.1 → AllByRecursion (IsAbove (span.0 + span.1)) spans) × AreAscending spans
 
 abbrev pub memory_size : ℕ
-memory_size = 65536
+memory_size = MEMORY_END
 
 -- what is kept of entries and labels: memory with what is known of it, how many wait, whether all fit, the names, and the
 -- lambdas that are open

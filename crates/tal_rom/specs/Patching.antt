@@ -11,7 +11,7 @@ use Rattle.tal_words.specs.Order.{each}
 use Rattle.tal_words.specs.Source.{expanded_text}
 use Rattle.tal_labels.specs.declared.placed.PlacedWord.{PlacedWord}
 use Rattle.tal_labels.specs.Labels.{labels_of}
-use Rattle.tal_labels.specs.Places.{first_address}
+use Rattle.uxn_limits.specs.declared.addresses.TheConstants.{FIRST_ADDRESS}
 use Rattle.tal_labels.specs.Placing.{placed_of}
 use Rattle.tal_rom.specs.References.{target_of}
 use Rattle.tal_rom.specs.Rom.{Piece, byte_at, rom_limit}
@@ -69,4 +69,4 @@ module _ (source : List ℕ) where
 
   -- the bytes at the addresses 0100 to ffff
   unfoldable pub image_of : List Expanded → List ℕ
-  image_of words = map (λ i. byte_at (map known_piece (added_of words)) (first_address + i)) (range_with_len 0 rom_limit)
+  image_of words = map (λ i. byte_at (map known_piece (added_of words)) (FIRST_ADDRESS + i)) (range_with_len 0 rom_limit)

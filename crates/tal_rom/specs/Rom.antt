@@ -2,10 +2,11 @@
 use Rattle.std.specs.Prelude.{ℕ, ◌+◌, ◌-◌, ◌==◌, Bool, ◌&&◌, nat_lt, nat_le, if◌then◌else◌, List, []}
 use Rattle.std.specs.Prelude.{◌∷◌, length, map, find, slice_index, Option, Some, None, unwrap_or}
 use Rattle.std.specs.List.{range_with_len}
+use Rattle.uxn_limits.specs.declared.limits.TheConstants.{BANK_ROM_LIMIT}
 use Rattle.tal_words.specs.declared.name.Label.{Label}
 use Rattle.tal_words.specs.Forms.{encoded}
 use Rattle.tal_labels.specs.declared.placed.PlacedWord.{PlacedWord}
-use Rattle.tal_labels.specs.Places.{first_address}
+use Rattle.uxn_limits.specs.declared.addresses.TheConstants.{FIRST_ADDRESS}
 use Rattle.tal_words.specs.Order.{each}
 use Rattle.tal_words.specs.Source.{expanded_text}
 use Rattle.tal_rom.specs.References.{target_of}
@@ -39,11 +40,11 @@ trimmed (byte ∷ rest) = before_trimmed byte (trimmed rest)
 
 -- the greatest length of a ROM
 abbrev pub rom_limit : ℕ
-rom_limit = 65280
+rom_limit = BANK_ROM_LIMIT
 
 -- the ROM: the bytes at the addresses 0100 to ffff, up to the last one that is not 0
 unfoldable pub rom_image : List Piece → List ℕ
-rom_image pieces = trimmed (map (λ i. byte_at pieces (first_address + i)) (range_with_len 0 rom_limit))
+rom_image pieces = trimmed (map (λ i. byte_at pieces (FIRST_ADDRESS + i)) (range_with_len 0 rom_limit))
 
 module _ (source : List ℕ) (labels : List Label) where
   -- a word with its bytes, by the words before it

@@ -1,7 +1,8 @@
 //! From a source to its ROM.
 
 ghost use Rattle.std.specs.Prelude.{◌≡◌, ◌≤◌, List, None, IfOk, IfSome, length, [], ℕ};
-ghost use Rattle.tal_words.specs.Comments.{words_of, word_fault, source_limit};
+ghost use Rattle.uxn_limits.specs.declared.limits.TheConstants.{TEXT_LIMIT};
+ghost use Rattle.tal_words.specs.Comments.{words_of, word_fault};
 ghost use Rattle.tal_rom.specs.Rom.{rom_limit};
 ghost use Rattle.tal_rom.specs.Assembly.{IsAssembled, first_fault, layout};
 ghost use Rattle.tal_rom.specs.Answers.{CoverOnce};
@@ -78,7 +79,7 @@ pub fn assemble(alloc: Global, source: &[u8]) -> Result<Assembly, AsmStop>
 fn in_one_pass(alloc: Global, source: &[u8], words: &[Word]) -> Result<Option<Assembly>, AllocError>
     requires words { words.now ≡ words_of source.now }
     requires sound { word_fault source.now ≡ None }
-    requires short { length source.now ≤ source_limit }
+    requires short { length source.now ≤ TEXT_LIMIT }
     ensures { IfOk result (λ found. IfSome found (λ assembly. IsAssembled source.now (Ok assembly))) }
 {
     let mut patcher = Patcher::new(alloc)?;
@@ -106,7 +107,7 @@ fn add_next(
     placer: &mut Placer,
     patcher: &mut Patcher,
 ) -> Result<Turn, AllocError>
-    requires short { length source.now ≤ source_limit }
+    requires short { length source.now ≤ TEXT_LIMIT }
     requires so { IsOnItsWay source.now expander.old placer.old patcher.old }
     ensures { IfOk result (λ turn. PassGoesOn source.now expander.old turn expander.new placer.new patcher.new) }
 {
@@ -132,7 +133,7 @@ fn add_all(
     patcher: &mut Patcher,
 ) -> Result<Option<Placer>, AllocError>
     requires words { words.now ≡ words_of source.now }
-    requires short { length source.now ≤ source_limit }
+    requires short { length source.now ≤ TEXT_LIMIT }
     requires patched { WerePatched source.now [] patcher.old }
     ensures { IfOk result (λ all. IfSome all (λ placer. AreAdded source.now placer patcher.new)) }
 {
@@ -173,7 +174,7 @@ fn with_all(
 pub fn by_phases(alloc: Global, source: &[u8], words: &[Word]) -> Result<Assembly, AsmStop>
     requires words { words.now ≡ words_of source.now }
     requires sound { word_fault source.now ≡ None }
-    requires short { length source.now ≤ source_limit }
+    requires short { length source.now ≤ TEXT_LIMIT }
     ensures { IsAssembled source.now result }
 {
     let expanded = expand(alloc, source, words)?;

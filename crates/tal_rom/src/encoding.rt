@@ -6,8 +6,8 @@ ghost use Rattle.tal_rom.specs.Filling.{is_reference};
 
 use arrayvec::ArrayVec;
 use std::alloc::AllocError;
-use tal_labels::MEMORY_END;
 use tal_words::{Form, Rune};
+use uxn_limits::addresses;
 
 /// The opcode that puts the byte after it on the stack.
 const LIT: u8 = 0x80;
@@ -45,7 +45,7 @@ fn distance(address: u64, target: u64) -> u64
     requires to { target ≤ 65535 }
     ensures { result ≡ distance_between address target }
 {
-    target + 2 * MEMORY_END - (address + 2)
+    target + 2 * addresses::MEMORY_END - (address + 2)
 }
 
 /// At most three bytes.

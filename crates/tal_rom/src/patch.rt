@@ -16,8 +16,8 @@ use crate::names::Names;
 use crate::references::reaches;
 use crate::rom::ZEROS;
 use std::alloc::{AllocError, Global};
-use tal_labels::MEMORY_END;
 use tal_words::Form;
+use uxn_limits::addresses;
 
 /// Memory with the bytes that are known, and the references that wait.
 #[derive(Drop)]
@@ -48,7 +48,7 @@ fn zeros(alloc: Global) -> Result<Vec<u8>, AllocError>
     ensures size { IfOk result (λ bytes. length bytes.items ≡ memory_size) }
     ensures each { IfOk result (λ bytes. (at : ℕ) → slice_index bytes.items at ≡ 0) }
 {
-    let mut memory = Vec::with_capacity(alloc, MEMORY_END as usize)?;
+    let mut memory = Vec::with_capacity(alloc, addresses::MEMORY_END as usize)?;
     for _ in 0..256_usize {
         memory.extend_from_slice(&ZEROS)?;
     }

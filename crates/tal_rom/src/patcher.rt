@@ -20,8 +20,9 @@ use crate::patch::Patch;
 use crate::references::name_after_rune;
 use crate::rom::without_last_zeros;
 use std::alloc::{AllocError, Global};
-use tal_labels::{FIRST_ADDRESS, PlacedWord, Scope, full_name};
+use tal_labels::{PlacedWord, Scope, full_name};
 use tal_words::{Form, closes, opens};
+use uxn_limits::addresses;
 
 /// Puts the bytes of words into an image of the ROM as the words are added, and fills those of each reference as its
 /// target is defined.
@@ -132,7 +133,7 @@ impl Patcher {
         ensures { (source : List ℕ) (words : List ExpandedWord) → WerePatched source words self.now → result.now ≡ image_of source words }
     {
         let memory = self.patch.memory();
-        let (_, image) = memory.split_at(memory.len().min(FIRST_ADDRESS as usize));
+        let (_, image) = memory.split_at(memory.len().min(addresses::FIRST_ADDRESS as usize));
         image
     }
 

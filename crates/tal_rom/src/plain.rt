@@ -2,7 +2,7 @@
 
 ghost use Rattle.std.specs.Prelude.{◌≡◌, ◌≤◌, ◌∷◌, List, length};
 ghost use Rattle.std.specs.List.{AllByRecursion};
-ghost use Rattle.tal_words.specs.Comments.{source_limit};
+ghost use Rattle.uxn_limits.specs.declared.limits.TheConstants.{TEXT_LIMIT};
 ghost use Rattle.tal_words.specs.PlainTexts.{Item, AreItems, text_of_items, words_of_items};
 ghost use Rattle.tal_labels.specs.PlainWords.{Coded, RepresentsWord, bytes_of_coded, pad_text, texts_of_coded};
 ghost use Rattle.tal_rom.specs.Rom.{rom_limit};
@@ -14,6 +14,6 @@ ghost use Rattle.tal_rom.specs.PlainWords.{AssemblesTo};
 pub fn plain_words_assemble_to_their_bytes()
     ensures { (items : List Item) (coded : List Coded) → AreItems items
         → words_of_items items ≡ pad_text ∷ texts_of_coded coded → AllByRecursion RepresentsWord coded
-        → length (text_of_items items) ≤ source_limit → length (bytes_of_coded coded) ≤ rom_limit
+        → length (text_of_items items) ≤ TEXT_LIMIT → length (bytes_of_coded coded) ≤ rom_limit
         → AssemblesTo (text_of_items items) (bytes_of_coded coded) }
 {}

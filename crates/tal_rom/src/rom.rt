@@ -3,7 +3,7 @@
 ghost use Rattle.std.specs.Prelude.{◌≡◌, ◌+◌, ◌++◌, ◌-◌, ◌<◌, ◌≤◌, length, take, replicate, IfOk, OnOk};
 ghost use Rattle.tal_words.specs.Faults.{Gives};
 ghost use Rattle.tal_words.specs.Forms.{encoded, size};
-ghost use Rattle.tal_labels.specs.Places.{first_address, memory_end};
+ghost use Rattle.uxn_limits.specs.declared.addresses.TheConstants.{FIRST_ADDRESS, MEMORY_END};
 ghost use Rattle.tal_labels.specs.Placing.{LieApart};
 ghost use Rattle.tal_rom.specs.Answers.{filled, LaysOut};
 ghost use Rattle.tal_rom.specs.References.{reference_fault};
@@ -12,8 +12,9 @@ ghost use Rattle.tal_rom.specs.Rom.{trimmed, rom_image, pieces_of, rom_limit};
 use crate::encoding::append_word;
 use crate::references::{reference_kind, target_in};
 use std::alloc::{AllocError, Global};
-use tal_labels::{FIRST_ADDRESS, FIRST_SCOPE, Placed, PlacedWord, next_scope};
+use tal_labels::{FIRST_SCOPE, Placed, PlacedWord, next_scope};
 use tal_words::{AsmStop, Fault};
+use uxn_limits::addresses;
 
 /// Zeros that are put or ignored at once.
 pub static ZEROS: [u8; 256] = [0; 256];
@@ -72,15 +73,18 @@ fn put_word(
     target: u64,
 ) -> Result<(), AllocError>
     requires size { word.now.size ≡ size word.now.form text.now }
-    requires above { 0 < word.now.size → first_address + length rom.old.items ≤ word.now.address }
-    requires within { 0 < word.now.size → word.now.address + word.now.size ≤ memory_end }
+    requires above { 0 < word.now.size → FIRST_ADDRESS + length rom.old.items ≤ word.now.address }
+    requires within { 0 < word.now.size → word.now.address + word.now.size ≤ MEMORY_END }
     requires to { target ≤ 65535 }
     ensures { OnOk result (rom.new.items ≡ filled rom.old.items word.now.address (encoded word.now.form text.now word.now.address target)) }
 {
     if word.size == 0 {
         return Ok(());
     }
-    append_zeros(rom, word.address - FIRST_ADDRESS - rom.len() as u64)?;
+    append_zeros(
+        rom,
+        word.address - addresses::FIRST_ADDRESS - rom.len() as u64,
+    )?;
     append_word(rom, word.form, text, word.address, target)
 }
 

@@ -2,7 +2,8 @@
 use Rattle.std.proofs.Common.{◌≡◌, ℕ, ◌<◌, ◌≤◌, Bool, true, false, cond, max, List, [], ◌∷◌, ◌++◌, Option, Some, None, inl, inr, refl, ap, sym, ◌∙◌, arith, append-nil}
 use Rattle.std.specs.Prelude.{◌==◌, nat_le, nat_lt, find}
 use Rattle.std.specs.Option.{option_or}
-use Rattle.std.proofs.lemmas.Bool.{cases_Bool, le-leb, lt-leb, eqb-true, eqb-false, eq-eqb, ne_eqb, ltb-true, ltb-false}
+use Rattle.std.proofs.lemmas.Bool.{cases_Bool, le-leb, lt-leb, eq-eqb, ltb-true, ltb-false}
+use Rattle.std.proofs.lemmas.Bool.Decides.{nat_tests}
 use Rattle.std.proofs.lemmas.List.Elements.{filter-append}
 use Rattle.std.proofs.lemmas.List.Folds.{find-append}
 use Rattle.tal_words.specs.declared.name.Label.{Label}
@@ -18,39 +19,18 @@ greatest-push (first ∷ labels) label = omega (arith, greatest-push labels labe
 -- no label has an address above the greatest
 none_above : (labels : List Label) (address : ℕ) → greatest_address labels < address → find (at_address address) labels ≡ None
 none_above [] address above = refl
-none_above (first ∷ labels) address above =
-    let other : (first.address == address) ≡ false = ne_eqb first.address address (λ same. omega arith) in
-    let rest = none_above labels address (omega arith) in
-    rw (other, rest) refl
+none_above (first ∷ labels) address above = grind (arith, nat_tests, none_above labels address)
 
 -- a label that is found has the address that is looked for
 found_at : (labels : List Label) (address : ℕ) (label : Label) → find (at_address address) labels ≡ Some label → label.address ≡ address
 found_at [] address label e = cc
-found_at (first ∷ labels) address label e = elim (cases_Bool (first.address == address)) [
-  | inl same ↦
-      let here : Some first ≡ Some label = rw same at e in
-      let is_first : first ≡ label = cc in
-      ap (λ (l : Label). l.address) (sym is_first) ∙ eqb-true first.address address same
-  | inr other ↦ found_at labels address label (rw other at e)
-]
+found_at (first ∷ labels) address label e = grind (arith, nat_tests, found_at labels address label)
 
 -- the greatest address is that of a label
 none_found : (labels : List Label) (address : ℕ) → greatest_address labels ≡ address → find (at_address address) labels ≡ None → labels ≡ []
 none_found [] address greatest e = refl
-none_found (first ∷ []) address greatest e =
-    let same : (first.address == address) ≡ true = eq-eqb first.address address (omega arith) in
-    let never : Some first ≡ None = rw same at e in
-    cc
-none_found (first ∷ second ∷ labels) address greatest e = elim (cases_Bool (first.address == address)) [
-  | inl same ↦ (let never : Some first ≡ None = rw same at e in cc)
-  | inr other ↦
-      let differ = eqb-false first.address address other in
-      let rest = none_found (second ∷ labels) address (elim_max first.address (greatest_address (second ∷ labels)) address greatest differ) (rw other at e) in
-      cc
-]
-  where
-    elim_max : (a b c : ℕ) → max a b ≡ c → (a ≡ c → ⊥) → b ≡ c
-    elim_max a b c e differ = omega arith
+none_found (first ∷ []) address greatest e = grind (arith, nat_tests)
+none_found (first ∷ second ∷ labels) address greatest e = grind (arith, nat_tests, none_found (second ∷ labels) address)
 
 -- one label more that is not above the greatest
 keeps_first : (labels : List Label) (label found : Label) → first_of_greatest labels ≡ Some found → label.address ≤ found.address
@@ -66,27 +46,21 @@ takes_above : (labels : List Label) (label : Label) → greatest_address labels 
 takes_above labels label above =
     let same : greatest_address (labels ++ label ∷ []) ≡ label.address = omega (arith, greatest-push labels label) in
     let split = find-append (at_address label.address) labels (label ∷ []) in
-    let none = none_above labels label.address above in
     let here : (label.address == label.address) ≡ true = eq-eqb label.address label.address refl in
     ap (λ (n : ℕ). find (at_address n) (labels ++ label ∷ [])) same ∙ split
-    ∙ ap (λ (o : Option Label). option_or o (find (at_address label.address) (label ∷ []))) none ∙ rw here refl
+    ∙ ap (λ (o : Option Label). option_or o (find (at_address label.address) (label ∷ []))) (none_above labels label.address above) ∙ rw here refl
 
 takes_first : (label : Label) → first_of_greatest (label ∷ []) ≡ Some label
-takes_first label =
-    let here : (label.address == max label.address 0) ≡ true = eq-eqb label.address (max label.address 0) (omega arith) in
-    rw here refl
+takes_first label = rw (eq-eqb label.address (max label.address 0) (omega arith)) refl
 
 -- which label is the nearest with one label more
 nearer : (labels : List Label) (label : Label) (known : Option Label) → first_of_greatest labels ≡ known
     → first_of_greatest (labels ++ label ∷ []) ≡ cond (lies_below known label.address) (Some label) known
-nearer labels label None e =
-    let none = none_found labels (greatest_address labels) refl e in
-    rw none (takes_first label)
+nearer labels label None e = rw (none_found labels (greatest_address labels) refl e) (takes_first label)
 nearer labels label (Some found) e = elim (cases_Bool (nat_lt found.address label.address)) [
   | inl below ↦
       let at = found_at labels (greatest_address labels) found e in
-      let less = ltb-true found.address label.address below in
-      rw below (takes_above labels label (omega arith))
+      rw below (takes_above labels label (omega (arith, at, ltb-true found.address label.address below)))
   | inr above ↦ rw above (keeps_first labels label found e (ltb-false found.address label.address above))
 ]
 
@@ -100,16 +74,14 @@ module _ (labels : List Label) (label : Label) (address : ℕ) (known : Option L
       so_far ∙ ap first_of_greatest (sym same)
 
   one_more : label.address ≤ address → labels_up_to (labels ++ label ∷ []) address ≡ labels_up_to labels address ++ label ∷ []
-  one_more low =
-      let inside = le-leb label.address address low in
-      filter-append (λ (l : Label). nat_le l.address address) labels (label ∷ []) ∙ rw inside refl
+  one_more low = filter-append (λ (l : Label). nat_le l.address address) labels (label ∷ []) ∙ rw (le-leb label.address address low) refl
 
-  pub taken : label.address ≤ address → lies_below known label.address ≡ true → Some label ≡ nearest_label (labels ++ label ∷ []) address
-  taken low below =
-      let step = nearer (labels_up_to labels address) label known (sym so_far) in
-      sym (ap first_of_greatest (one_more low) ∙ step ∙ rw below refl)
+  module _ (low : label.address ≤ address) where
+    next : nearest_label (labels ++ label ∷ []) address ≡ cond (lies_below known label.address) (Some label) known
+    next = ap first_of_greatest (one_more low) ∙ nearer (labels_up_to labels address) label known (sym so_far)
 
-  pub kept : label.address ≤ address → lies_below known label.address ≡ false → known ≡ nearest_label (labels ++ label ∷ []) address
-  kept low above =
-      let step = nearer (labels_up_to labels address) label known (sym so_far) in
-      sym (ap first_of_greatest (one_more low) ∙ step ∙ rw above refl)
+    pub taken : lies_below known label.address ≡ true → Some label ≡ nearest_label (labels ++ label ∷ []) address
+    taken below = sym (next ∙ rw below refl)
+
+    pub kept : lies_below known label.address ≡ false → known ≡ nearest_label (labels ++ label ∷ []) address
+    kept above = sym (next ∙ rw above refl)

@@ -1,8 +1,9 @@
 -- The reading of a file, one entry at a time.
-use Rattle.std.proofs.Common.{◌≡◌, ℕ, ◌+◌, ◌*◌, ◌/◌, ◌%◌, ◌<◌, ◌≤◌, true, List, [], ◌∷◌, ◌++◌, length, take, drop, get_or, map, Option, Some, None, Ok, Err, inl, inr, refl, ap, sym, ◌∙◌, arith, append_assoc, append-nil, length-append, length-drop}
-use Rattle.std.specs.Prelude.{not, ◌&&◌, ◌==◌, nat_lt}
+use Rattle.std.proofs.Common.{◌≡◌, ℕ, ◌+◌, ◌*◌, ◌/◌, ◌%◌, ◌<◌, ◌≤◌, true, List, [], ◌∷◌, ◌++◌, length, take, drop, get_or, map, Option, Some, None, Ok, Err, refl, ap, sym, ◌∙◌, arith, append_assoc, append-nil, length-append, length-drop}
+use Rattle.std.specs.Prelude.{not, ◌&&◌, nat_lt}
 use Rattle.std.specs.List.{list_any}
-use Rattle.std.proofs.lemmas.Bool.{cases_Bool, le-ltb, lt-ltb, and_from, not_from_false}
+use Rattle.std.proofs.lemmas.Bool.{le-ltb}
+use Rattle.std.proofs.lemmas.Bool.Decides.{nat_tests}
 use Rattle.std.proofs.lemmas.List.{take-append-drop, length_push, get_or-append-add}
 use Rattle.std.proofs.lemmas.List.Concat.{flat_map-append}
 use Rattle.std.proofs.lemmas.List.Folds.{list_all-append}
@@ -10,7 +11,8 @@ use Rattle.tal_words.specs.declared.name.Label.{Label}
 use Rattle.tal_words.specs.Source.{is_blank}
 use Rattle.tal_symbols.specs.declared.stop.SymbolKind.{SymbolKind}
 use Rattle.tal_symbols.specs.declared.stop.SymbolKind.TheVariants.{Torn, NoName, BadByte, Long}
-use Rattle.tal_symbols.specs.SymbolFile.{entry, symbol_file, symbols_limit, is_readable, are_readable}
+use Rattle.uxn_limits.specs.declared.limits.TheConstants.{SYMBOLS_LIMIT}
+use Rattle.tal_symbols.specs.SymbolFile.{entry, symbol_file, is_readable, are_readable}
 use Rattle.tal_symbols.specs.Reading.{Refusal, entries, entry_fault, bad_name, name_before_zero, label_of_entry, first_refusal, refused_at, symbols_in}
 use Rattle.tal_symbols.specs.Answers.{entry_length, StopsAtEntry, IsRefusedAtEntry}
 use Rattle.tal_symbols.proofs.Cutting.{whole_entry, cut_entry, entry_length-some, entry_length-within, same_fault}
@@ -25,12 +27,7 @@ pub record ReadsOn (bytes rest : List ℕ) (labels : List Label) : Type 0 where
 
 named_readable : (name : List ℕ) → bad_name name ≡ None → (nat_lt 0 (length name) && not (list_any is_blank name)) ≡ true
 named_readable [] e = cc
-named_readable (first ∷ rest) e = elim (cases_Bool (list_any is_blank (first ∷ rest))) [
-  | inl blank ↦ (let never : Some BadByte ≡ None = rw blank at e in cc)
-  | inr plain ↦
-      let some : nat_lt 0 (length (first ∷ rest)) ≡ true = lt-ltb 0 (length (first ∷ rest)) (omega arith) in
-      and_from (nat_lt 0 (length (first ∷ rest))) (not (list_any is_blank (first ∷ rest))) some (not_from_false (list_any is_blank (first ∷ rest)) plain)
-]
+named_readable (first ∷ rest) e = grind (arith, nat_tests)
 
 -- the entry of the label that is read is the entry
 entry_again : (high low : ℕ) (name : List ℕ) → low < 256 → entry (record { name = name; address = 256 * high + low }) ≡ high ∷ low ∷ (name ++ 0 ∷ [])
@@ -55,22 +52,13 @@ reads_more bytes rest labels label small reads some sound is_label =
     let again : entry label ≡ prefix = ap entry is_read ∙ entry_again whole.high whole.low name low_small ∙ sym whole.cut in
     let counted : length (labels ++ label ∷ []) ≡ length labels + 1 = length_push labels label in
     record {
-      refusal =
-          reads.refusal ∙ ap (first_refusal (length labels)) cut
-          ∙ ap (λ (fault : Option SymbolKind). refused_at (length labels) fault (first_refusal (length labels + 1) (entries back))) sound
-          ∙ ap (λ (n : ℕ). first_refusal n (entries back)) (sym counted);
-      all =
-          reads.all ∙ ap (λ (parts : List (List ℕ)). labels ++ map label_of_entry parts) cut
-          ∙ ap (λ (first : Label). labels ++ first ∷ map label_of_entry (entries back)) (sym is_label)
-          ∙ sym (append_assoc labels (label ∷ []) (map label_of_entry (entries back)));
+      refusal = reads.refusal ∙ rw (cut, sound, counted) refl;
+      all = reads.all ∙ rw (cut, ← is_label) (sym (append_assoc labels (label ∷ []) (map label_of_entry (entries back))));
       parts =
           reads.parts ∙ ap (λ (text : List ℕ). symbol_file labels ++ text) (sym (take-append-drop (entry_length rest) rest) ∙ ap (λ (text : List ℕ). text ++ back) (sym again))
           ∙ sym (append_assoc (symbol_file labels) (entry label) back)
           ∙ ap (λ (text : List ℕ). text ++ back) (sym (flat_map-append entry labels (label ∷ []) ∙ ap (λ (text : List ℕ). symbol_file labels ++ text) (append-nil (entry label))));
-      readable =
-          list_all-append is_readable labels (label ∷ [])
-          ∙ and_from (are_readable labels) (is_readable label && true) reads.readable
-          (and_from (is_readable label) true (ap is_readable is_read ∙ named_readable name whole.named) refl);
+      readable = rw (list_all-append is_readable labels (label ∷ []), reads.readable, is_read, named_readable name whole.named) refl;
       count = omega (arith, counted, reads.count, length-drop (entry_length rest) rest, entry_length-some rest some, entry_length-within rest);
     }
   where
@@ -106,31 +94,25 @@ reads_stop bytes rest labels kind reads some fault = (
 not_long : (rest : List ℕ) → entry_fault rest ≡ Some Long → ⊥
 not_long [] e = cc
 not_long (a ∷ []) e = cc
-not_long (a ∷ b ∷ text) e = elim (cases_Bool (list_any (λ byte. byte == 0) text)) [
-  | inl has ↦ named_not_long (name_before_zero text) (rw has at e)
-  | inr none ↦ (let never : Some Torn ≡ Some Long = rw none at e in cc)
-]
+not_long (a ∷ b ∷ text) e = grind (arith, named_not_long (name_before_zero text))
   where
     named_not_long : (name : List ℕ) → bad_name name ≡ Some Long → ⊥
     named_not_long [] e = cc
-    named_not_long (first ∷ rest) e = elim (cases_Bool (list_any is_blank (first ∷ rest))) [
-      | inl blank ↦ (let never : Some BadByte ≡ Some Long = rw blank at e in cc)
-      | inr plain ↦ (let never : None ≡ Some Long = rw plain at e in cc)
-    ]
+    named_not_long (first ∷ rest) e = grind arith
 
-pub stops_refused : (bytes : List ℕ) (entry : ℕ) (kind : SymbolKind) → length bytes ≤ symbols_limit → StopsAtEntry bytes entry kind → IsRefusedAtEntry bytes entry kind
+pub stops_refused : (bytes : List ℕ) (entry : ℕ) (kind : SymbolKind) → length bytes ≤ SYMBOLS_LIMIT → StopsAtEntry bytes entry kind → IsRefusedAtEntry bytes entry kind
 stops_refused bytes entry Torn short stops = (short, stops)
 stops_refused bytes entry NoName short stops = (short, stops)
 stops_refused bytes entry BadByte short stops = (short, stops)
 stops_refused bytes entry Long short stops = absurd (not_long stops.rest stops.fault)
 
 -- what is found in a file within the limit
-pub found_refusal : (bytes : List ℕ) (refusal : Refusal) → length bytes ≤ symbols_limit → first_refusal 0 (entries bytes) ≡ Some refusal
+pub found_refusal : (bytes : List ℕ) (refusal : Refusal) → length bytes ≤ SYMBOLS_LIMIT → first_refusal 0 (entries bytes) ≡ Some refusal
     → symbols_in bytes ≡ Err refusal
 unfolding symbols_in
-found_refusal bytes refusal short e = let low = le-ltb symbols_limit (length bytes) short in rw (low, e) refl
+found_refusal bytes refusal short e = let low = le-ltb SYMBOLS_LIMIT (length bytes) short in rw (low, e) refl
 
-pub found_labels : (bytes : List ℕ) (labels : List Label) → length bytes ≤ symbols_limit → first_refusal 0 (entries bytes) ≡ None
+pub found_labels : (bytes : List ℕ) (labels : List Label) → length bytes ≤ SYMBOLS_LIMIT → first_refusal 0 (entries bytes) ≡ None
     → map label_of_entry (entries bytes) ≡ labels → symbols_in bytes ≡ Ok labels
 unfolding symbols_in
-found_labels bytes labels short e all = let low = le-ltb symbols_limit (length bytes) short in rw (low, e, all) refl
+found_labels bytes labels short e all = let low = le-ltb SYMBOLS_LIMIT (length bytes) short in rw (low, e, all) refl

@@ -1,12 +1,13 @@
 -- That what was written of labels is read back.
-use Rattle.std.proofs.Common.{◌≡◌, ℕ, ◌+◌, ◌*◌, ◌/◌, ◌%◌, ◌≤◌, true, false, List, [], ◌∷◌, ◌++◌, length, map, None, Ok, inl, inr, refl, ap, ◌∙◌, arith}
+use Rattle.std.proofs.Common.{◌≡◌, ℕ, ◌+◌, ◌*◌, ◌/◌, ◌%◌, ◌≤◌, true, false, List, [], ◌∷◌, ◌++◌, length, map, None, Ok, refl, ap, ◌∙◌, arith}
 use Rattle.std.specs.Prelude.{not, ◌==◌, nat_lt}
 use Rattle.std.specs.List.{list_any}
-use Rattle.std.proofs.lemmas.Bool.{cases_Bool, and_parts, or_parts, not-true, ltb-false, le-leb, ne_eqb}
+use Rattle.std.proofs.lemmas.Bool.{and_parts, or_parts, not-true, ltb-false, le-leb, ne_eqb}
 use Rattle.std.proofs.lemmas.List.Sums.{take_while-cons}
 use Rattle.tal_words.specs.declared.name.Label.{Label}
 use Rattle.tal_words.specs.Source.{is_blank}
-use Rattle.tal_symbols.specs.SymbolFile.{entry, symbol_file, symbols_limit, is_readable, are_readable}
+use Rattle.uxn_limits.specs.declared.limits.TheConstants.{SYMBOLS_LIMIT}
+use Rattle.tal_symbols.specs.SymbolFile.{entry, symbol_file, is_readable, are_readable}
 use Rattle.tal_symbols.specs.Reading.{entries, entries_after, entry_fault, bad_name, name_before_zero, label_of_entry, first_refusal, symbols_in}
 use Rattle.tal_symbols.proofs.ReadingLemmas.{found_labels}
 
@@ -19,29 +20,21 @@ name_ends : (name rest : List ℕ) (before : ℕ) → 2 ≤ before → list_any 
 name_ends [] rest before behind plain = let far = le-leb 2 before behind in rw far refl
 name_ends (byte ∷ name) rest before behind plain =
     let parts = or_parts (is_blank byte) (list_any is_blank name) plain in
-    let other = not_zero byte parts.0 in
-    let far = le-leb 2 before behind in
-    let more = name_ends name rest (before + 1) (omega arith) parts.1 in
-    rw (far, other, more) refl
+    rw (le-leb 2 before behind, not_zero byte parts.0, name_ends name rest (before + 1) (omega arith) parts.1) refl
 
 entry_ends : (label : Label) (rest : List ℕ) → list_any is_blank label.name ≡ false → entries (entry label ++ rest) ≡ entry label ∷ entries rest
 entry_ends label rest plain = let ends = name_ends label.name rest 2 (omega arith) plain in rw ends refl
 
 has_zero : (name : List ℕ) → list_any (λ byte. byte == 0) (name ++ 0 ∷ []) ≡ true
 has_zero [] = refl
-has_zero (byte ∷ name) = elim (cases_Bool (byte == 0)) [
-  | inl e ↦ rw e refl
-  | inr e ↦ let more = has_zero name in rw (e, more) refl
-]
+has_zero (byte ∷ name) = grind (arith, has_zero name)
 
 name_back : (name : List ℕ) → list_any is_blank name ≡ false → name_before_zero (name ++ 0 ∷ []) ≡ name
 name_back [] plain = refl
 name_back (byte ∷ name) plain =
     let parts = or_parts (is_blank byte) (list_any is_blank name) plain in
-    let other = not_zero byte parts.0 in
     let step = take_while-cons (λ b. not (b == 0)) byte (name ++ 0 ∷ []) in
-    let more = name_back name parts.1 in
-    rw (step, other, more) refl
+    rw (step, not_zero byte parts.0, name_back name parts.1) refl
 
 no_bad_name : (name : List ℕ) → nat_lt 0 (length name) ≡ true → list_any is_blank name ≡ false → bad_name name ≡ None
 no_bad_name [] some plain = cc
@@ -53,16 +46,12 @@ module _ (label : Label) (readable : is_readable label ≡ true) where
   is_plain = not-true (list_any is_blank label.name) (and_parts (nat_lt 0 (length label.name)) (not (list_any is_blank label.name)) readable).1
 
   faultless : entry_fault (entry label) ≡ None
-  faultless =
-      let zero_there = has_zero label.name in
-      let back = name_back label.name is_plain in
-      rw (zero_there, back) (no_bad_name label.name (and_parts (nat_lt 0 (length label.name)) (not (list_any is_blank label.name)) readable).0 is_plain)
+  faultless = rw (has_zero label.name, name_back label.name is_plain) (no_bad_name label.name (and_parts (nat_lt 0 (length label.name)) (not (list_any is_blank label.name)) readable).0 is_plain)
 
   label_back : label_of_entry (entry label) ≡ label
   label_back =
-      let back = name_back label.name is_plain in
       let address : 256 * (label.address / 256) + label.address % 256 ≡ label.address = omega arith in
-      rw (back, address) refl
+      rw (name_back label.name is_plain, address) refl
 
 -- the entries of a file that was written
 written : (labels : List Label) → are_readable labels ≡ true → entries (symbol_file labels) ≡ map entry labels
@@ -75,19 +64,15 @@ none_refused : (labels : List Label) (number : ℕ) → are_readable labels ≡ 
 none_refused [] number readable = refl
 none_refused (label ∷ labels) number readable =
     let parts = and_parts (is_readable label) (are_readable labels) readable in
-    let sound = faultless label parts.0 in
-    let more = none_refused labels (number + 1) parts.1 in
-    rw (sound, more) refl
+    rw (faultless label parts.0, none_refused labels (number + 1) parts.1) refl
 
 all_back : (labels : List Label) → are_readable labels ≡ true → map label_of_entry (map entry labels) ≡ labels
 all_back [] readable = refl
 all_back (label ∷ labels) readable =
     let parts = and_parts (is_readable label) (are_readable labels) readable in
-    let here = label_back label parts.0 in
-    let more = all_back labels parts.1 in
-    rw (here, more) refl
+    rw (label_back label parts.0, all_back labels parts.1) refl
 
-pub read_back : (labels : List Label) → are_readable labels ≡ true → length (symbol_file labels) ≤ symbols_limit → symbols_in (symbol_file labels) ≡ Ok labels
+pub read_back : (labels : List Label) → are_readable labels ≡ true → length (symbol_file labels) ≤ SYMBOLS_LIMIT → symbols_in (symbol_file labels) ≡ Ok labels
 read_back labels readable short =
     let cut = written labels readable in
     found_labels (symbol_file labels) labels short

@@ -8,7 +8,8 @@ use Rattle.tal_symbols.specs.declared.stop.SymbolKind.{SymbolKind}
 use Rattle.tal_symbols.specs.declared.stop.SymbolKind.TheVariants.{Torn, NoName, BadByte, Long}
 use Rattle.tal_symbols.specs.declared.stop.SymbolStop.{SymbolStop}
 use Rattle.tal_symbols.specs.declared.stop.SymbolStop.TheVariants.{Refused, NoMemory}
-use Rattle.tal_symbols.specs.SymbolFile.{symbol_file, symbols_limit, are_readable}
+use Rattle.uxn_limits.specs.declared.limits.TheConstants.{SYMBOLS_LIMIT}
+use Rattle.tal_symbols.specs.SymbolFile.{symbol_file, are_readable}
 use Rattle.tal_symbols.specs.Reading.{Refusal, entry_fault}
 
 -- the name of a kind, as it is printed
@@ -36,12 +37,12 @@ pub record StopsAtEntry (bytes : List ℕ) (entry : ℕ) (kind : SymbolKind) : T
 
 -- why a file is refused: as a whole where it is over the limit, and else at its first entry that no such label has
 abbrev pub IsRefusedAtEntry : List ℕ → ℕ → SymbolKind → Type 0
-IsRefusedAtEntry bytes entry Long = (symbols_limit < length bytes) × (entry ≡ 0)
-IsRefusedAtEntry bytes entry kind = (length bytes ≤ symbols_limit) × StopsAtEntry bytes entry kind
+IsRefusedAtEntry bytes entry Long = (SYMBOLS_LIMIT < length bytes) × (entry ≡ 0)
+IsRefusedAtEntry bytes entry kind = (length bytes ≤ SYMBOLS_LIMIT) × StopsAtEntry bytes entry kind
 
 -- labels that can be read back and whose symbol file the bytes are
 pub record AreLabelsOf (bytes : List ℕ) (labels : List Label) : Type 0 where
-  pub short : length bytes ≤ symbols_limit
+  pub short : length bytes ≤ SYMBOLS_LIMIT
   pub readable : are_readable labels ≡ true
   pub written : symbol_file labels ≡ bytes
 

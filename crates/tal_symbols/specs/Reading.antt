@@ -6,7 +6,7 @@ use Rattle.tal_words.specs.declared.name.Label.{Label}
 use Rattle.tal_words.specs.Source.{is_blank}
 use Rattle.tal_symbols.specs.declared.stop.SymbolKind.{SymbolKind}
 use Rattle.tal_symbols.specs.declared.stop.SymbolKind.TheVariants.{Torn, NoName, BadByte, Long}
-use Rattle.tal_symbols.specs.SymbolFile.{symbols_limit}
+use Rattle.uxn_limits.specs.declared.limits.TheConstants.{SYMBOLS_LIMIT}
 
 -- a byte at the start of the first of some entries
 abbrev pub onto_first : ℕ → List (List ℕ) → List (List ℕ)
@@ -68,5 +68,5 @@ labels_unless (Some refusal) labels = Err refusal
 -- the labels of a symbol file, or why it is refused
 unfoldable pub symbols_in : List ℕ → Result (List Label) Refusal
 symbols_in bytes =
-    if nat_lt symbols_limit (length bytes) then Err (record { entry = 0; kind = Long })
+    if nat_lt SYMBOLS_LIMIT (length bytes) then Err (record { entry = 0; kind = Long })
     else labels_unless (first_refusal 0 (entries bytes)) (map label_of_entry (entries bytes))

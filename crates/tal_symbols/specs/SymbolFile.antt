@@ -12,10 +12,6 @@ entry label = label.address / 256 ∷ label.address % 256 ∷ (label.name ++ 0 �
 abbrev pub symbol_file : List Label → List ℕ
 symbol_file labels = flat_map entry labels
 
--- the greatest length of a symbol file that is read
-abbrev pub symbols_limit : ℕ
-symbols_limit = 16777216
-
 -- the name of a label can be read back: it is not empty, and has no byte up to a space
 abbrev pub is_readable : Label → Bool
 is_readable label = nat_lt 0 (length label.name) && not (list_any is_blank label.name)

@@ -4,16 +4,15 @@ ghost use Rattle.std.specs.Prelude.{◌≡◌, ◌≤◌, ◌<◌, ◌==◌, ℕ
 ghost use Rattle.std.specs.List.{list_any, position_or_len};
 ghost use Rattle.tal_words.specs.declared.name.Label.{Label};
 ghost use Rattle.tal_words.specs.Source.{is_blank};
-ghost use Rattle.tal_symbols.specs.SymbolFile.{symbol_file, symbols_limit, are_readable};
+ghost use Rattle.uxn_limits.specs.declared.limits.TheConstants.{SYMBOLS_LIMIT};
+ghost use Rattle.tal_symbols.specs.SymbolFile.{symbol_file, are_readable};
 ghost use Rattle.tal_symbols.specs.Reading.{symbols_in, bad_name, entry_fault, label_of_entry, name_before_zero};
 ghost use Rattle.tal_symbols.specs.Answers.{ReadsSymbols, AreLabelsRead, entry_length};
 
 use crate::stop::{SymbolKind, SymbolStop};
 use std::alloc::{AllocError, Global};
 use tal_words::{Label, Name};
-
-/// The greatest length of a symbol file that is read, in bytes.
-const SYMBOLS_LIMIT: usize = 16_777_216;
+use uxn_limits::limits;
 
 /// The labels of a symbol file: those whose names are not empty and have no byte up to a space, and
 /// whose symbol file these bytes are. Refused with the first entry that no such label has, and the
@@ -23,7 +22,7 @@ pub fn read_symbols(alloc: Global, bytes: &[u8]) -> Result<Vec<Label>, SymbolSto
     ensures found { ReadsSymbols (symbols_in bytes.now) result }
     ensures means { AreLabelsRead bytes.now result }
 {
-    if bytes.len() > SYMBOLS_LIMIT {
+    if bytes.len() > limits::SYMBOLS_LIMIT {
         return Err(SymbolStop::Refused {
             entry: 0,
             kind: SymbolKind::Long,
@@ -47,7 +46,7 @@ pub fn read_symbols(alloc: Global, bytes: &[u8]) -> Result<Vec<Label>, SymbolSto
 /// What was written of labels is read back: of labels whose names are not empty and have no byte up to
 /// a space, where the file is not too long.
 pub fn written_symbols_are_read()
-    ensures { (labels : List Label) → are_readable labels ≡ true → length (symbol_file labels) ≤ symbols_limit
+    ensures { (labels : List Label) → are_readable labels ≡ true → length (symbol_file labels) ≤ SYMBOLS_LIMIT
         → symbols_in (symbol_file labels) ≡ Ok labels }
 {}
 

@@ -1,5 +1,5 @@
 -- No word of a source has a blank in it.
-use Rattle.std.proofs.Common.{◌≡◌, ℕ, zero, suc, ◌+◌, ◌-◌, Bool, true, false, not, List, [], ◌∷◌, ◌++◌, length, take, drop, inl, inr, refl, arith}
+use Rattle.std.proofs.Common.{◌≡◌, ℕ, zero, suc, ◌+◌, ◌-◌, ◌<◌, ◌≤◌, Bool, true, false, not, List, [], ◌∷◌, ◌++◌, length, take, drop, inl, inr, refl, arith}
 use Rattle.std.specs.Prelude.{if◌then◌else◌}
 use Rattle.std.specs.List.{prefix_len, AllByRecursion}
 use Rattle.std.proofs.lemmas.Bool.{cases_Bool}
@@ -25,35 +25,41 @@ run_free (byte ∷ bytes) = elim (cases_Bool (is_blank byte)) [
       rw (plain, one, plain) rest
 ]
 
-module _ (source : List ℕ) where
-  abbrev pub IsBlankFreeWord : Word → Type 0
-  IsBlankFreeWord word = IsBlankFree (word_text source word)
+-- what holds of the text of each token holds of that of each word
+module _ (P : List ℕ → Type 0) (source : List ℕ) (token_is : (at : ℕ) → at < length source → begins_token source at ≡ true → P (word_text source (token_at source at))) where
+  abbrev pub IsSuch : Word → Type 0
+  IsSuch word = P (word_text source word)
 
-  token_free : (at : ℕ) → IsBlankFreeWord (token_at source at)
-  unfolding token_at
-  token_free at =
-      let size : at + run_length source at - at ≡ run_length source at = omega arith in
-      rw size (run_free (drop at source))
-
-  tokens_free : (at : ℕ) → AllByRecursion IsBlankFreeWord (tokens_below source at)
+  tokens_all : (at : ℕ) → at ≤ length source → AllByRecursion IsSuch (tokens_below source at)
   unfolding tokens_below
-  tokens_free zero = tt
-  tokens_free (suc at) = all_joined IsBlankFreeWord (tokens_below source at) (if begins_token source at then token_at source at ∷ [] else []) (tokens_free at) (by (begins_token source at))
+  tokens_all zero within = tt
+  tokens_all (suc at) within =
+      all_joined IsSuch (tokens_below source at) (if begins_token source at then token_at source at ∷ [] else []) (tokens_all at (omega (arith, within)))
+      (by (begins_token source at) refl)
     where
-      by : (b : Bool) → AllByRecursion IsBlankFreeWord (if b then token_at source at ∷ [] else [])
-      by true = (token_free at, tt)
-      by false = tt
+      by : (b : Bool) → begins_token source at ≡ b → AllByRecursion IsSuch (if b then token_at source at ∷ [] else [])
+      by true is = (token_is at (omega (arith, within)) is, tt)
+      by false is = tt
 
-  given_free : (before tokens : List Word) → AllByRecursion IsBlankFreeWord tokens → AllByRecursion IsBlankFreeWord (collected (word_given source) before tokens)
-  given_free before [] all = tt
-  given_free before (token ∷ tokens) all =
-      all_joined IsBlankFreeWord (word_given source before token tokens) (collected (word_given source) (before ++ token ∷ []) tokens)
-      (by (is_word source before token) all.0) (given_free (before ++ token ∷ []) tokens all.1)
+  given_all : (before tokens : List Word) → AllByRecursion IsSuch tokens → AllByRecursion IsSuch (collected (word_given source) before tokens)
+  given_all before [] all = tt
+  given_all before (token ∷ tokens) all =
+      all_joined IsSuch (word_given source before token tokens) (collected (word_given source) (before ++ token ∷ []) tokens)
+      (by (is_word source before token) all.0) (given_all (before ++ token ∷ []) tokens all.1)
     where
-      by : (b : Bool) → IsBlankFreeWord token → AllByRecursion IsBlankFreeWord (if b then token ∷ [] else [])
-      by true plain = (plain, tt)
-      by false plain = tt
+      by : (b : Bool) → IsSuch token → AllByRecursion IsSuch (if b then token ∷ [] else [])
+      by true one = (one, tt)
+      by false one = tt
 
-  pub words_free : AllByRecursion IsBlankFreeWord (words_of source)
+  pub words_all : AllByRecursion IsSuch (words_of source)
   unfolding words_of tokens_of
-  words_free = given_free [] (tokens_below source (length source)) (tokens_free (length source))
+  words_all = given_all [] (tokens_below source (length source)) (tokens_all (length source) (omega arith))
+
+token_free : (source : List ℕ) (at : ℕ) → IsBlankFree (word_text source (token_at source at))
+unfolding token_at
+token_free source at =
+    let size : at + run_length source at - at ≡ run_length source at = omega arith in
+    rw size (run_free (drop at source))
+
+pub words_free : (source : List ℕ) → AllByRecursion (λ word. IsBlankFree (word_text source word)) (words_of source)
+words_free source = words_all IsBlankFree source (λ at within begins. token_free source at)

@@ -3,6 +3,7 @@ use Rattle.std.proofs.Common.{◌≡◌, ℕ, ◌+◌, ◌<◌, ◌≤◌, Bool,
 use Rattle.std.specs.Prelude.{if◌then◌else◌, nat_lt, fold, ◌||◌, ◌==◌}
 use Rattle.std.proofs.lemmas.List.{drop_more, take_more, drop_all}
 use Rattle.std.proofs.lemmas.Bool.{le-ltb, lt-ltb, ne_eqb, eq-eqb}
+use Rattle.uxn_limits.specs.declared.limits.TheConstants.{WORD_LIMIT}
 use Rattle.tal_words.specs.declared.span.Word.{Word}
 use Rattle.tal_words.specs.declared.fault.Fault.{Fault}
 use Rattle.tal_words.specs.declared.fault.FaultKind.TheVariants.{OpenComment, LongWord, StrayParen}
@@ -44,20 +45,20 @@ module _ (source : List ℕ) where
 
       module _ (plain : begins 40 (word_text source token) ≡ false) where
         -- a word without a fault
-        word_left : (comment_depth source (before ++ token ∷ []) == 0) ≡ true → nat_lt 255 (length (word_text source token)) ≡ false
+        word_left : (comment_depth source (before ++ token ∷ []) == 0) ≡ true → nat_lt WORD_LIMIT (length (word_text source token)) ≡ false
             → begins 41 (word_text source token) ≡ false → fault_left opener before (token ∷ after) ≡ fault_left opener (before ++ token ∷ []) after
         unfolding fault_left
         word_left still short unstray = rw (outside, plain, short, unstray, still) refl
 
         -- a word that is too long
-        long_left : (stray : Bool) → begins 41 (word_text source token) ≡ stray → nat_lt 255 (length (word_text source token)) ≡ true
+        long_left : (stray : Bool) → begins 41 (word_text source token) ≡ stray → nat_lt WORD_LIMIT (length (word_text source token)) ≡ true
             → fault_left opener before (token ∷ after) ≡ Some (fault_at token LongWord)
         unfolding fault_left
         long_left true stray long = rw (outside, plain, long, stray) refl
         long_left false stray long = rw (outside, plain, long, stray) refl
 
         -- a word that closes no comment
-        stray_left : nat_lt 255 (length (word_text source token)) ≡ false → begins 41 (word_text source token) ≡ true
+        stray_left : nat_lt WORD_LIMIT (length (word_text source token)) ≡ false → begins 41 (word_text source token) ≡ true
             → fault_left opener before (token ∷ after) ≡ Some (fault_at token StrayParen)
         unfolding fault_left
         stray_left short stray = rw (outside, plain, short, stray) refl
@@ -137,24 +138,24 @@ module _ (source : List ℕ) (all : List Word) (k : ℕ) (words : List Word) (de
       plain : begins 40 (word_text source token) ≡ false
       plain = read 40 false result ensured tested
 
-      pub step_word : (closes : Bool) → length text ≤ 255 → closes ≡ begins 41 text → closes ≡ false → Passes source all (k + 1) (words ++ token ∷ []) depth opener
+      pub step_word : (closes : Bool) → length text ≤ WORD_LIMIT → closes ≡ begins 41 text → closes ≡ false → Passes source all (k + 1) (words ++ token ∷ []) depth opener
       step_word closes short ensured_closes tested_closes =
           let here : word_given source (take k all) token (drop (k + 1) all) ≡ token ∷ [] = rw (outside low, plain) refl in
           let same : depth ≡ depth_after depth text = rw (none, sym ensured ∙ tested) refl in
           next (words ++ token ∷ []) (token ∷ []) opener depth here refl
           (word_left source (take k all) token (drop (k + 1) all) opener (outside low) plain (eq-eqb _ 0 (omega (arith, same, next_depth)))
-          (le-ltb 255 _ (rw is_text at short)) (read 41 false closes ensured_closes tested_closes)) same (omega arith)
+          (le-ltb WORD_LIMIT _ (rw is_text at short)) (read 41 false closes ensured_closes tested_closes)) same (omega arith)
 
-      pub step_long : 255 < length text → phase_fault (each (validated_token source) [] all) ≡ Some (fault_at token LongWord)
+      pub step_long : WORD_LIMIT < length text → phase_fault (each (validated_token source) [] all) ≡ Some (fault_at token LongWord)
       step_long long =
           left ∙ long_left source (take k all) token (drop (k + 1) all) opener (outside low) plain (begins 41 (word_text source token)) refl
-          (lt-ltb 255 _ (rw is_text at long))
+          (lt-ltb WORD_LIMIT _ (rw is_text at long))
 
-      pub step_stray : (closes : Bool) → length text ≤ 255 → closes ≡ begins 41 text → closes ≡ true
+      pub step_stray : (closes : Bool) → length text ≤ WORD_LIMIT → closes ≡ begins 41 text → closes ≡ true
           → phase_fault (each (validated_token source) [] all) ≡ Some (fault_at token StrayParen)
       step_stray closes short ensured_closes tested_closes =
           left ∙ stray_left source (take k all) token (drop (k + 1) all) opener (outside low) plain
-          (le-ltb 255 _ (rw is_text at short)) (read 41 true closes ensured_closes tested_closes)
+          (le-ltb WORD_LIMIT _ (rw is_text at short)) (read 41 true closes ensured_closes tested_closes)
 
 -- all tokens have passed: the open comment is the fault, or there is none
 module _ (source : List ℕ) (all : List Word) (k : ℕ) (words : List Word) (depth : ℕ) (opener : Word) (past : length all ≤ k)

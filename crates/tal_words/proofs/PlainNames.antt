@@ -3,6 +3,7 @@ use Rattle.std.proofs.Common.{◌≡◌, ℕ, zero, suc, ◌<◌, Bool, true, fa
 use Rattle.std.specs.Prelude.{◌&&◌, ◌==◌, nat_lt, nat_le}
 use Rattle.std.specs.List.{list_any}
 use Rattle.std.proofs.lemmas.Bool.{and_parts, cases_lt, eqb-true, not-true, ltb-true, leb-true}
+use Rattle.uxn_limits.specs.declared.limits.TheConstants.{WORD_LIMIT}
 use Rattle.tal_words.specs.declared.fault.FaultKind.{FaultKind}
 use Rattle.tal_words.specs.declared.form.Form.{Form}
 use Rattle.tal_words.specs.declared.form.Form.TheVariants.{Pad, Skip, Lit1, Lit2, Raw1, Raw2, Op, Text, LabelDef, SubDef, Refer, LambdaEnd, Ignored}
@@ -44,21 +45,21 @@ opcode-is (Err kind) byte e = cc
 -- what is known of a word of an instruction, as a test
 abbrev is_plain_word : List ℕ → Bool
 is_plain_word text =
-    nat_lt 0 (length text) && not (list_any is_blank text) && not (begins 40 text) && not (begins 41 text) && nat_le (length text) 255
+    nat_lt 0 (length text) && not (list_any is_blank text) && not (begins 40 text) && not (begins 41 text) && nat_le (length text) WORD_LIMIT
     && not (begins 37 text) && not (opens text) && not (closes text)
 
 plain_word : (text : List ℕ) → is_plain_word text ≡ true → IsPlainWord text
 plain_word text e =
-    let p7 = and_parts (nat_lt 0 (length text) && not (list_any is_blank text) && not (begins 40 text) && not (begins 41 text) && nat_le (length text) 255 && not (begins 37 text) && not (opens text)) (not (closes text)) e in
-    let p6 = and_parts (nat_lt 0 (length text) && not (list_any is_blank text) && not (begins 40 text) && not (begins 41 text) && nat_le (length text) 255 && not (begins 37 text)) (not (opens text)) p7.0 in
-    let p5 = and_parts (nat_lt 0 (length text) && not (list_any is_blank text) && not (begins 40 text) && not (begins 41 text) && nat_le (length text) 255) (not (begins 37 text)) p6.0 in
-    let p4 = and_parts (nat_lt 0 (length text) && not (list_any is_blank text) && not (begins 40 text) && not (begins 41 text)) (nat_le (length text) 255) p5.0 in
+    let p7 = and_parts (nat_lt 0 (length text) && not (list_any is_blank text) && not (begins 40 text) && not (begins 41 text) && nat_le (length text) WORD_LIMIT && not (begins 37 text) && not (opens text)) (not (closes text)) e in
+    let p6 = and_parts (nat_lt 0 (length text) && not (list_any is_blank text) && not (begins 40 text) && not (begins 41 text) && nat_le (length text) WORD_LIMIT && not (begins 37 text)) (not (opens text)) p7.0 in
+    let p5 = and_parts (nat_lt 0 (length text) && not (list_any is_blank text) && not (begins 40 text) && not (begins 41 text) && nat_le (length text) WORD_LIMIT) (not (begins 37 text)) p6.0 in
+    let p4 = and_parts (nat_lt 0 (length text) && not (list_any is_blank text) && not (begins 40 text) && not (begins 41 text)) (nat_le (length text) WORD_LIMIT) p5.0 in
     let p3 = and_parts (nat_lt 0 (length text) && not (list_any is_blank text) && not (begins 40 text)) (not (begins 41 text)) p4.0 in
     let p2 = and_parts (nat_lt 0 (length text) && not (list_any is_blank text)) (not (begins 40 text)) p3.0 in
     let p1 = and_parts (nat_lt 0 (length text)) (not (list_any is_blank text)) p2.0 in
     record {
       some = ltb-true 0 (length text) p1.0;
-      short = leb-true (length text) 255 p4.1;
+      short = leb-true (length text) WORD_LIMIT p4.1;
       blank_free = not-true (list_any is_blank text) p1.1;
       no_comment = not-true (begins 40 text) p2.1;
       no_paren = not-true (begins 41 text) p3.1;

@@ -5,12 +5,13 @@ use Rattle.std.specs.List.{flat_map, AllByRecursion}
 use Rattle.std.proofs.lemmas.Bool.{le-ltb}
 use Rattle.std.proofs.lemmas.List.{map-append}
 use Rattle.std.proofs.lemmas.List.Sums.{fold_push}
+use Rattle.uxn_limits.specs.declared.limits.TheConstants.{WORD_LIMIT, TEXT_LIMIT}
 use Rattle.tal_words.specs.declared.span.Word.{Word}
 use Rattle.tal_words.specs.declared.fault.FaultKind.{FaultKind}
 use Rattle.tal_words.specs.declared.fault.FaultKind.TheVariants.{OpenComment, LongWord, StrayParen}
 use Rattle.tal_words.specs.Source.{begins, word_text, tokens_of}
 use Rattle.tal_words.specs.Faults.{when, least, phase_fault, fault_or}
-use Rattle.tal_words.specs.Comments.{depth_after, comment_depth, is_word, opens_comment, closed_comment, validated_token, word_given, words_of, word_fault, source_limit}
+use Rattle.tal_words.specs.Comments.{depth_after, comment_depth, is_word, opens_comment, closed_comment, validated_token, word_given, words_of, word_fault}
 use Rattle.tal_words.specs.Order.{each, collected}
 use Rattle.tal_words.specs.PlainTexts.{Chunk, Item, Comment, PlainWord, chunks_of_item, text_of_items, words_of_item, IsPlainWord, AreItems}
 use Rattle.tal_words.proofs.PlainTokens.{AreChunks, texts_of_tokens}
@@ -35,7 +36,7 @@ closes_within depth (text ∷ texts) = depth_after depth text == 0 || closes_wit
 abbrev pub text_faults : ℕ → List ℕ → List (List ℕ) → List FaultKind
 text_faults depth text texts =
     when (opens_one depth text && not (closes_within (depth_after depth text) texts)) OpenComment
-    ++ when (speaks depth text && nat_lt 255 (length text)) LongWord
+    ++ when (speaks depth text && nat_lt WORD_LIMIT (length text)) LongWord
     ++ when (speaks depth text && begins 41 text) StrayParen
 
 -- no token of these texts has a fault
@@ -82,10 +83,10 @@ module _ (source : List ℕ) where
       let next = depth_more before token depth e in
       let kinds : (validated_token source before token tokens).kinds ≡ [] =
       ap (λ (b : Bool). when (opens_comment source before token && not b) OpenComment
-      ++ when (is_word source before token && nat_lt 255 (length text)) LongWord ++ when (is_word source before token && begins 41 text) StrayParen)
+      ++ when (is_word source before token && nat_lt WORD_LIMIT (length text)) LongWord ++ when (is_word source before token && begins 41 text) StrayParen)
       (closed_same tokens (before ++ token ∷ []) (depth_after depth text) next)
       ∙ ap (λ (n : ℕ). when (opens_one n text && not (closes_within (depth_after depth text) (map (word_text source) tokens))) OpenComment
-      ++ when (speaks n text && nat_lt 255 (length text)) LongWord ++ when (speaks n text && begins 41 text) StrayParen) e
+      ++ when (speaks n text && nat_lt WORD_LIMIT (length text)) LongWord ++ when (speaks n text && begins 41 text) StrayParen) e
       ∙ sound.0 in
       ap (λ (found : List FaultKind). fault_or token (least found) (phase_fault (each (validated_token source) (before ++ token ∷ []) tokens))) kinds
       ∙ sound_same tokens (before ++ token ∷ []) (depth_after depth text) next sound.1
@@ -127,7 +128,7 @@ items_sound (Comment text blank ∷ items) are =
 items_sound (PlainWord text blank ∷ items) are =
     let opens = are.0.0.no_comment in
     let closes = are.0.0.no_paren in
-    let short = le-ltb 255 (length text) are.0.0.short in
+    let short = le-ltb WORD_LIMIT (length text) are.0.0.short in
     rw (opens, closes, short) (refl, items_sound items are.1)
 
 -- the words of the text are those of the items
@@ -138,11 +139,11 @@ words_are items are =
     words_same source (tokens_of source) [] 0 refl ∙ ap (words_outside 0) (texts_of_tokens (chunks_of items) (are_chunks items are)) ∙ outside_items items are
 
 -- and none of its tokens has a fault
-pub no_word_fault : (items : List Item) → AreItems items → length (text_of_items items) ≤ source_limit → word_fault (text_of_items items) ≡ None
+pub no_word_fault : (items : List Item) → AreItems items → length (text_of_items items) ≤ TEXT_LIMIT → word_fault (text_of_items items) ≡ None
 unfolding word_fault comment_depth
 no_word_fault items are short =
     let source = text_of_items items in
-    let low = le-ltb source_limit (length source) short in
+    let low = le-ltb TEXT_LIMIT (length source) short in
     let P : List (List ℕ) → Type 0 = λ texts. AreSound 0 texts in
     let sound : AreSound 0 (map (word_text source) (tokens_of source)) =
     subst P (sym (texts_of_tokens (chunks_of items) (are_chunks items are))) (items_sound items are) in

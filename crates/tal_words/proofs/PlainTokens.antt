@@ -20,6 +20,11 @@ pub record IsChunk (chunk : Chunk) : Type 0 where
 abbrev pub AreChunks : List Chunk → Type 0
 AreChunks chunks = AllByRecursion IsChunk chunks
 
+-- what is read of each chunk and its place, if the first stands here
+abbrev pub read_along : {A : Type 0} → (ℕ → Chunk → A) → ℕ → List Chunk → List A
+read_along read at [] = []
+read_along read at (chunk ∷ chunks) = read at chunk ∷ read_along read (at + length chunk.text + 1) chunks
+
 any_none : (p : ℕ → Bool) (xs : List ℕ) (j : ℕ) → list_any p xs ≡ false → j < length xs → p (get_or xs j 0) ≡ false
 any_none p [] j none within = absurd (omega arith)
 any_none p (x ∷ xs) zero none within = (or_parts (p x) (list_any p xs) none).0
@@ -103,26 +108,42 @@ module _ (source : List ℕ) where
         ∙ ap (take (length chunk.text)) (append_assoc chunk.text (chunk.blank ∷ []) rest)
         ∙ take_at chunk.text ((chunk.blank ∷ []) ++ rest) (length chunk.text) refl
 
-  -- the texts of the tokens from a place on
-  texts_from : (chunks : List Chunk) (prefix : List ℕ) → AreChunks chunks → source ≡ prefix ++ text_of_chunks chunks → is_after_blank source (length prefix) ≡ true
-      → map (word_text source) (tokens_below source (length source)) ≡ map (word_text source) (tokens_below source (length prefix)) ++ map (λ chunk. chunk.text) chunks
-  texts_from [] prefix are split after =
-      let same : length source ≡ length prefix = ap length (split ∙ append-nil prefix) in
-      ap (λ (n : ℕ). map (word_text source) (tokens_below source n)) same ∙ sym (append-nil (map (word_text source) (tokens_below source (length prefix))))
-  texts_from (chunk ∷ chunks) prefix are split after =
-      let rest = text_of_chunks chunks in
-      let size : length (prefix ++ chunk_text chunk) ≡ length prefix + length chunk.text + 1 = omega (arith, length-append prefix (chunk_text chunk), length-append chunk.text (chunk.blank ∷ [])) in
-      let again : source ≡ (prefix ++ chunk_text chunk) ++ rest = split ∙ sym (append_assoc prefix (chunk_text chunk) rest) in
-      let later : is_after_blank source (length (prefix ++ chunk_text chunk)) ≡ true = ap (is_after_blank source) size ∙ behind_token prefix chunk rest are.0 split in
-      texts_from chunks (prefix ++ chunk_text chunk) are.1 again later
-      ∙ ap (λ (n : ℕ). map (word_text source) (tokens_below source n) ++ map (λ (c : Chunk). c.text) chunks) size
-      ∙ ap (λ (tokens : List Word). map (word_text source) tokens ++ map (λ (c : Chunk). c.text) chunks) (next_token prefix chunk rest are.0 split after)
-      ∙ ap (λ (texts : List (List ℕ)). texts ++ map (λ (c : Chunk). c.text) chunks) (map-append (word_text source) (tokens_below source (length prefix)) (token_at source (length prefix) ∷ []))
-      ∙ ap (λ (text : List ℕ). (map (word_text source) (tokens_below source (length prefix)) ++ text ∷ []) ++ map (λ (c : Chunk). c.text) chunks) (token_text prefix chunk rest are.0 split)
-      ∙ append_assoc (map (word_text source) (tokens_below source (length prefix))) (chunk.text ∷ []) (map (λ (c : Chunk). c.text) chunks)
+  -- what is read of the tokens from a place on
+  module _ {A : Type 0} (f : Word → A) (read : ℕ → Chunk → A)
+      (reads : (prefix : List ℕ) (chunk : Chunk) (rest : List ℕ) → IsChunk chunk → source ≡ prefix ++ (chunk_text chunk ++ rest)
+      → f (token_at source (length prefix)) ≡ read (length prefix) chunk) where
+    read_from : (chunks : List Chunk) (prefix : List ℕ) → AreChunks chunks → source ≡ prefix ++ text_of_chunks chunks → is_after_blank source (length prefix) ≡ true
+        → map f (tokens_below source (length source)) ≡ map f (tokens_below source (length prefix)) ++ read_along read (length prefix) chunks
+    read_from [] prefix are split after =
+        let same : length source ≡ length prefix = ap length (split ∙ append-nil prefix) in
+        ap (λ (n : ℕ). map f (tokens_below source n)) same ∙ sym (append-nil (map f (tokens_below source (length prefix))))
+    read_from (chunk ∷ chunks) prefix are split after =
+        let rest = text_of_chunks chunks in
+        let next = length prefix + length chunk.text + 1 in
+        let size : length (prefix ++ chunk_text chunk) ≡ next = omega (arith, length-append prefix (chunk_text chunk), length-append chunk.text (chunk.blank ∷ [])) in
+        let again : source ≡ (prefix ++ chunk_text chunk) ++ rest = split ∙ sym (append_assoc prefix (chunk_text chunk) rest) in
+        let later : is_after_blank source (length (prefix ++ chunk_text chunk)) ≡ true = ap (is_after_blank source) size ∙ behind_token prefix chunk rest are.0 split in
+        read_from chunks (prefix ++ chunk_text chunk) are.1 again later
+        ∙ ap (λ (n : ℕ). map f (tokens_below source n) ++ read_along read n chunks) size
+        ∙ ap (λ (tokens : List Word). map f tokens ++ read_along read next chunks) (next_token prefix chunk rest are.0 split after)
+        ∙ ap (λ (all : List A). all ++ read_along read next chunks) (map-append f (tokens_below source (length prefix)) (token_at source (length prefix) ∷ []))
+        ∙ ap (λ (one : A). (map f (tokens_below source (length prefix)) ++ one ∷ []) ++ read_along read next chunks) (reads prefix chunk rest are.0 split)
+        ∙ append_assoc (map f (tokens_below source (length prefix))) (read (length prefix) chunk ∷ []) (read_along read next chunks)
+
+-- what is read of the tokens of chunks
+pub read_of_tokens : {A : Type 0} (chunks : List Chunk) (f : Word → A) (read : ℕ → Chunk → A)
+    → ((prefix : List ℕ) (chunk : Chunk) (rest : List ℕ) → IsChunk chunk → text_of_chunks chunks ≡ prefix ++ (chunk_text chunk ++ rest)
+    → f (token_at (text_of_chunks chunks) (length prefix)) ≡ read (length prefix) chunk)
+    → AreChunks chunks → map f (tokens_of (text_of_chunks chunks)) ≡ read_along read 0 chunks
+unfolding tokens_of tokens_below
+read_of_tokens chunks f read reads are = read_from (text_of_chunks chunks) f read reads chunks [] are refl refl
+
+texts_along : (chunks : List Chunk) (at : ℕ) → read_along (λ at chunk. chunk.text) at chunks ≡ map (λ chunk. chunk.text) chunks
+texts_along [] at = refl
+texts_along (chunk ∷ chunks) at = ap (λ (texts : List (List ℕ)). chunk.text ∷ texts) (texts_along chunks (at + length chunk.text + 1))
 
 -- the texts of the tokens of chunks
 pub texts_of_tokens : (chunks : List Chunk) → AreChunks chunks
     → map (word_text (text_of_chunks chunks)) (tokens_of (text_of_chunks chunks)) ≡ map (λ chunk. chunk.text) chunks
-unfolding tokens_of tokens_below
-texts_of_tokens chunks are = texts_from (text_of_chunks chunks) chunks [] are refl refl
+texts_of_tokens chunks are =
+    read_of_tokens chunks (word_text (text_of_chunks chunks)) (λ at chunk. chunk.text) (token_text (text_of_chunks chunks)) are ∙ texts_along chunks 0

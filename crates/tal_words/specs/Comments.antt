@@ -2,6 +2,7 @@
 use Rattle.std.specs.Prelude.{ℕ, zero, suc, Bool, not, ◌&&◌, ◌==◌, nat_lt, if◌then◌else◌, List, [], ◌∷◌}
 use Rattle.std.specs.Prelude.{◌++◌, length, fold, Option, Some}
 use Rattle.std.specs.List.{list_any}
+use Rattle.uxn_limits.specs.declared.limits.TheConstants.{TEXT_LIMIT, WORD_LIMIT}
 use Rattle.tal_words.specs.declared.span.Word.{Word}
 use Rattle.tal_words.specs.declared.fault.Fault.{Fault}
 use Rattle.tal_words.specs.declared.fault.FaultKind.TheVariants.{OpenComment, LongWord, StrayParen, LongSource}
@@ -41,17 +42,13 @@ module _ (source : List ℕ) where
     origin = token;
     kinds =
         when (opens_comment before token && not (closed_comment (before ++ token ∷ []) after)) OpenComment
-        ++ when (is_word before token && nat_lt 255 (length (word_text source token))) LongWord
+        ++ when (is_word before token && nat_lt WORD_LIMIT (length (word_text source token))) LongWord
         ++ when (is_word before token && begins 41 (word_text source token)) StrayParen;
   }
 
   -- the word that a token is
   abbrev pub word_given : List Word → Word → List Word → List Word
   word_given before token after = if is_word before token then token ∷ [] else []
-
--- the greatest length of a source
-abbrev pub source_limit : ℕ
-source_limit = 4194304
 
 -- a source that is too long is refused as a whole
 abbrev pub long_source : Fault
@@ -64,5 +61,5 @@ words_of source = collected (word_given source) [] (tokens_of source)
 -- the first fault of the cutting into words
 unfoldable pub word_fault : List ℕ → Option Fault
 word_fault source =
-    if nat_lt source_limit (length source) then Some long_source
+    if nat_lt TEXT_LIMIT (length source) then Some long_source
     else phase_fault (each (validated_token source) [] (tokens_of source))

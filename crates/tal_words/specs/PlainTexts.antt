@@ -1,6 +1,7 @@
 -- Texts that are made of plain words and of comments of one word, each with a blank behind it.
 use Rattle.std.specs.Prelude.{◌≡◌, ℕ, ◌<◌, ◌≤◌, true, false, List, [], ◌∷◌, ◌++◌, length}
 use Rattle.std.specs.List.{flat_map, list_any, AllByRecursion}
+use Rattle.uxn_limits.specs.declared.limits.TheConstants.{WORD_LIMIT}
 use Rattle.tal_words.specs.Source.{is_blank, begins, is_only}
 use Rattle.tal_words.specs.Braces.{opens, closes}
 
@@ -42,7 +43,7 @@ IsBlankFree text = list_any is_blank text ≡ false
 -- a plain word: not empty, not too long, without blanks, and it begins no comment or head and opens or closes no brace; 37 is `%`
 pub record IsPlainWord (text : List ℕ) : Type 0 where
   pub some : 0 < length text
-  pub short : length text ≤ 255
+  pub short : length text ≤ WORD_LIMIT
   pub blank_free : IsBlankFree text
   pub no_comment : begins 40 text ≡ false
   pub no_paren : begins 41 text ≡ false

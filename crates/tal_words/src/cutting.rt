@@ -4,27 +4,23 @@ ghost use Rattle.std.specs.Prelude.{◌≡◌, ◌≤◌, ◌<◌, ◌+◌, ◌+
 ghost use Rattle.tal_words.specs.Source.{is_newline, line_at, column_at, is_between, begins_token, token_at, tokens_below, tokens_of};
 ghost use Rattle.tal_words.specs.Faults.{Gives, phase_fault};
 ghost use Rattle.tal_words.specs.Order.{each, collected};
-ghost use Rattle.tal_words.specs.Comments.{validated_token, word_given, words_of, word_fault, depth_after, source_limit};
+ghost use Rattle.uxn_limits.specs.declared.limits.TheConstants.{TEXT_LIMIT};
+ghost use Rattle.tal_words.specs.Comments.{validated_token, word_given, words_of, word_fault, depth_after};
 
 use crate::fault::{AsmStop, Fault, FaultKind};
 use crate::span::{Span, Word};
 use crate::text::{begins, is_blank, is_only, run_end};
 use std::alloc::Global;
-
-/// The greatest length of a source, in bytes.
-pub const SOURCE_LIMIT: usize = 4_194_304;
-
-/// The greatest length of a word, in bytes.
-const WORD_LIMIT: usize = 255;
+use uxn_limits::limits;
 
 /// The words of a source: its tokens outside comments. Refused with the first fault of a token or a
-/// comment, or where the source has more than 4,194,304 bytes.
+/// comment, or where the source has more than `TEXT_LIMIT` bytes.
 #[tactic(auto, unfolding(crate::specs::Comments::word_fault, crate::specs::Comments::words_of))]
 pub fn words(alloc: Global, source: &[u8]) -> Result<Vec<Word>, AsmStop>
     ensures value { Gives (λ v. v.items) result (word_fault source.now) (words_of source.now) }
-    ensures short { IfOk result (λ _. length source.now ≤ source_limit) }
+    ensures short { IfOk result (λ _. length source.now ≤ TEXT_LIMIT) }
 {
-    if source.len() > SOURCE_LIMIT {
+    if source.len() > limits::TEXT_LIMIT {
         return Err(AsmStop::Refused(Fault {
             at: 0,
             line: 1,
@@ -72,7 +68,7 @@ impl Place {
 
 /// The place of the next token from a place between tokens on, or that of the end.
 fn past_blanks(source: &[u8], place: Place) -> Place
-    requires short { length source.now ≤ source_limit }
+    requires short { length source.now ≤ TEXT_LIMIT }
     requires within { place.at ≤ length source.now }
     requires line { place.line ≡ line_at source.now place.at }
     requires column { place.column ≡ column_at source.now place.at }
@@ -98,7 +94,7 @@ fn past_blanks(source: &[u8], place: Place) -> Place
 #[tactic(auto, unfolding(crate::specs::Source::token_at))]
 fn token_at(source: &[u8], place: Place) -> Word
     requires within { place.at < length source.now }
-    requires short { length source.now ≤ source_limit }
+    requires short { length source.now ≤ TEXT_LIMIT }
     requires line { place.line ≡ line_at source.now place.at }
     requires column { place.column ≡ column_at source.now place.at }
     ensures value { result ≡ token_at source.now place.at }
@@ -119,7 +115,7 @@ fn token_at(source: &[u8], place: Place) -> Word
 /// The place behind the token that begins at a place.
 fn past_token(source: &[u8], place: Place, token: Word) -> Place
     requires within { place.at < length source.now }
-    requires short { length source.now ≤ source_limit }
+    requires short { length source.now ≤ TEXT_LIMIT }
     requires line { place.line ≡ line_at source.now place.at }
     requires column { place.column ≡ column_at source.now place.at }
     requires begins { begins_token source.now place.at ≡ true }
@@ -141,7 +137,7 @@ fn past_token(source: &[u8], place: Place, token: Word) -> Place
 
 /// The words of a source that is not too long: its tokens that are no comments, or the first fault of a token or a comment.
 fn outside_comments(alloc: Global, source: &[u8]) -> Result<Vec<Word>, AsmStop>
-    requires short { length source.now ≤ source_limit }
+    requires short { length source.now ≤ TEXT_LIMIT }
     ensures { Gives (λ v. v.items) result (phase_fault (each (validated_token source.now) [] (tokens_of source.now)))
         (collected (word_given source.now) [] (tokens_of source.now)) }
 {
@@ -167,7 +163,7 @@ fn outside_comments(alloc: Global, source: &[u8]) -> Result<Vec<Word>, AsmStop>
             opener = token;
             depth = 1;
         } else {
-            if text.len() > WORD_LIMIT {
+            if text.len() > limits::WORD_LIMIT {
                 return Err(AsmStop::Refused(Fault::new(&token, FaultKind::LongWord)));
             }
             if begins(text, b')') {

@@ -15,7 +15,7 @@ use thiserror::Error;
 pub enum FaultKind {
     /// A comment is not closed.
     OpenComment,
-    /// A word has more than 255 bytes.
+    /// A word has more than `WORD_LIMIT` bytes.
     LongWord,
     /// A word begins with `)`.
     StrayParen,
@@ -27,13 +27,13 @@ pub enum FaultKind {
     NoName,
     /// A word includes a file.
     IncludeHere,
-    /// The source has more than 4,194,304 bytes.
+    /// The source has more than `TEXT_LIMIT` bytes.
     LongSource,
     /// A macro is defined twice.
     MacroTwice,
     /// A macro has no body, or a body has a macro in it.
     MacroBody,
-    /// Macros are used more than 32 deep.
+    /// Macros are used more than `MACRO_DEPTH` deep.
     MacroDeep,
     /// Macros give too many words.
     ManyWords,

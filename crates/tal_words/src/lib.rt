@@ -12,7 +12,7 @@ mod runes;
 mod span;
 mod text;
 
-pub use cutting::{SOURCE_LIMIT, words};
+pub use cutting::words;
 pub use fault::{AsmStop, Fault, FaultKind, fault_word, first_fault_is_first};
 pub use form::{Form, Rune, form_of};
 pub use name::{Label, Name, name_fault};

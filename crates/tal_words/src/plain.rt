@@ -4,7 +4,8 @@ ghost use Rattle.std.specs.Prelude.{◌≡◌, ◌<◌, ◌≤◌, ℕ, List, No
 ghost use Rattle.std.specs.List.{AllByRecursion};
 ghost use Rattle.tal_words.specs.declared.form.Form.TheVariants.{Op};
 ghost use Rattle.tal_words.specs.Source.{word_text};
-ghost use Rattle.tal_words.specs.Comments.{source_limit, words_of, word_fault};
+ghost use Rattle.uxn_limits.specs.declared.limits.TheConstants.{TEXT_LIMIT};
+ghost use Rattle.tal_words.specs.Comments.{words_of, word_fault};
 ghost use Rattle.tal_words.specs.Forms.{form};
 ghost use Rattle.tal_words.specs.Opcodes.{name_of_op};
 ghost use Rattle.tal_words.specs.PlainTexts.{Item, AreItems, IsBlankFree, IsPlainWord, text_of_items, words_of_items};
@@ -14,7 +15,7 @@ ghost use Rattle.tal_words.specs.PlainTexts.{Item, AreItems, IsBlankFree, IsPlai
 pub fn plain_words_are_the_words()
     ensures words { (items : List Item) → AreItems items
         → map (word_text (text_of_items items)) (words_of (text_of_items items)) ≡ words_of_items items }
-    ensures faultless { (items : List Item) → AreItems items → length (text_of_items items) ≤ source_limit
+    ensures faultless { (items : List Item) → AreItems items → length (text_of_items items) ≤ TEXT_LIMIT
         → word_fault (text_of_items items) ≡ None }
 {}
 

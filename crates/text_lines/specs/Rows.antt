@@ -1,7 +1,9 @@
 -- Tables of the first words of lines (profile): a word, how many values stand behind it, and what it represents.
-use Rattle.std.specs.Prelude.{ℕ, Bool, false, nat_lt, if◌then◌else◌, List, map, Option, Some, None, Result, Ok, Err}
+use Rattle.std.specs.Prelude.{ℕ, Bool, false, nat_lt, if◌then◌else◌, List, [], ◌∷◌, length, map, Option, Some, None, Result, Ok, Err}
 use Rattle.std.specs.List.{find}
 use Rattle.std.specs.Str.{bytes_eq}
+use Rattle.text_lines.specs.Numbers.{begins_with}
+use Rattle.text_lines.specs.Reading.{Line, made}
 use Rattle.text_lines.specs.declared.row.Row.{Row}
 use Rattle.text_lines.specs.declared.row.Counts.{Counts}
 use Rattle.text_lines.specs.declared.row.Counts.TheVariants.{Exactly, Between, AtLeast}
@@ -40,3 +42,16 @@ with_count row count =
 abbrev pub counted : {K : Type 0} → Option (List ℕ × Counts × K) → ℕ → Result K LineFault
 counted None count = Err Unknown
 counted (Some row) count = with_count row count
+
+-- the keyword of a line with its values; a line without words or with `#` before its first has none
+unfoldable pub keyword_of : {K : Type 0} → Rows K → List (List ℕ) → Line (K × List (List ℕ)) LineFault
+keyword_of rows [] = Ok None
+keyword_of rows (name ∷ values) =
+    if begins_with 35 name then Ok None
+    else made (λ keyword. Some (keyword, values)) (counted (keyword_row rows name) (length values))
+
+-- what a line gives, by what its keyword and values give and by what a fault of its words is
+abbrev pub line_by : {K A F : Type 0} → (LineFault → F) → (K → List (List ℕ) → Result A F) → Line (K × List (List ℕ)) LineFault → Line A F
+line_by kind meaning (Ok None) = Ok None
+line_by kind meaning (Ok (Some said)) = made Some (meaning said.0 said.1)
+line_by kind meaning (Err fault) = Err (kind fault)

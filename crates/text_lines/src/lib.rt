@@ -10,5 +10,5 @@ mod words;
 pub use lines::Lines;
 pub use numbers::{begins_with, byte_of, integer_within, number_within};
 pub use reading::first_faulty_line;
-pub use row::{Counts, LineFault, Row, keyword_line};
+pub use row::{Counts, LineFault, Row, keyword_of};
 pub use words::first_word;

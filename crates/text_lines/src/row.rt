@@ -1,9 +1,11 @@
 //! Tables of the first words of lines.
 
-ghost use Rattle.std.specs.Prelude.{◌≡◌, length};
+ghost use Rattle.std.specs.Prelude.{◌≡◌, ◌≤◌, length, option_map, IfOk, IfSome};
 ghost use Rattle.text_lines.specs.Lines.{words_of};
-ghost use Rattle.text_lines.specs.Rows.{rows_in, keyword_row, counted, with_count};
+ghost use Rattle.text_lines.specs.Reading.{made};
+ghost use Rattle.text_lines.specs.Rows.{rows_in, keyword_row, counted, with_count, keyword_of};
 
+use crate::numbers::begins_with;
 use crate::words::first_word;
 
 /// How many values a line takes behind its first word.
@@ -32,9 +34,29 @@ pub enum LineFault {
     Extra,
 }
 
-/// The keyword of a first word whose row takes as many values as there are words.
+/// The keyword of a line, and the words of its values behind it. A line without words or with `#` before its first has none.
+#[tactic(auto, unfolding(crate::specs::Rows::keyword_of))]
+pub fn keyword_of<'a, K: Copy>(
+    rows: &[Row<K>],
+    line: &'a [u8],
+) -> Result<Option<(K, &'a [u8])>, LineFault>
+    ensures keyword { made (option_map (λ said. (said.0, words_of said.1.now))) result
+        ≡ keyword_of (rows_in rows.now) (words_of line.now) }
+    ensures shorter { IfOk result (λ given. IfSome given (λ said. length said.1.now ≤ length line.now)) }
+{
+    let Some((name, values)) = first_word(line) else {
+        return Ok(None);
+    };
+    if begins_with(b'#', name) {
+        return Ok(None);
+    }
+    let keyword = keyword_line(rows, name, values)?;
+    Ok(Some((keyword, values)))
+}
+
+// The keyword of a first word whose row takes as many values as there are words.
 #[tactic(auto, unfolding(crate::specs::Rows::keyword_row))]
-pub fn keyword_line<K: Copy>(rows: &[Row<K>], name: &[u8], values: &[u8]) -> Result<K, LineFault>
+fn keyword_line<K: Copy>(rows: &[Row<K>], name: &[u8], values: &[u8]) -> Result<K, LineFault>
     ensures { result ≡ counted (keyword_row (rows_in rows.now) name.now) (length (words_of values.now)) }
 {
     let mut left = rows;

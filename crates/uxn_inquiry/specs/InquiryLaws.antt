@@ -1,11 +1,11 @@
 -- Laws of inquiries over known contents, and of what every answer keeps to.
-use Rattle.std.specs.Prelude.{◌≡◌, List, [], ◌∷◌, ◌++◌, Result, Ok, Err, IfOk, refl}
-use Rattle.std.proofs.Common.{sym, ◌∙◌, ap, append-nil}
+use Rattle.std.specs.Prelude.{◌≡◌, List, [], ◌∷◌, Result, Ok, Err, IfOk, refl}
+use Rattle.std.proofs.Common.{sym, ◌∙◌, ap}
 use Rattle.std.specs.List.{AllByRecursion}
 use Rattle.uxn_io_traits.specs.Files.{Nodes}
 use Rattle.uxn_inquiry.specs.Question.{reply_in}
 use Rattle.uxn_inquiry.specs.Inquiry.{Inquiry, Answer, Ask, bind, unless_refused, and_then, through, answer_in}
-use Rattle.uxn_inquiry.specs.Along.{AgreeAlong, Always, questions_in}
+use Rattle.uxn_inquiry.specs.Along.{AgreeAlong, Always}
 
 -- the answer of one inquiry, and then of the next
 pub answer-bind : {A B : Type 0} (nodes : Nodes) (inquiry : Inquiry A) (next : A → Inquiry B)
@@ -47,41 +47,6 @@ pub same-answer : {A : Type 0} (nodes other : Nodes) (inquiry : Inquiry A) → A
 same-answer nodes other (Answer value) agree = refl
 same-answer nodes other (Ask question more) agree =
     same-answer nodes other (more (reply_in nodes question)) agree.1 ∙ ap (λ reply. answer_in other (more reply)) agree.0
-
--- so what is refused is refused over each tree that is the same up to there
-pub same-refusal : {A B E : Type 0} (nodes other : Nodes) (inquiry : Inquiry (Result A E)) (next : A → Inquiry (Result B E))
-    (refusal : E)
-    → answer_in nodes inquiry ≡ Err refusal → AgreeAlong nodes other inquiry
-    → answer_in other (and_then inquiry next) ≡ Err refusal
-same-refusal nodes other inquiry next refusal is agree =
-    answer-refused other inquiry next refusal (sym (same-answer nodes other inquiry agree) ∙ is)
-
--- what is asked: the questions of the one, and then those of the next
-pub questions-bind : {A B : Type 0} (nodes : Nodes) (inquiry : Inquiry A) (next : A → Inquiry B)
-    → questions_in nodes (bind inquiry next) ≡ questions_in nodes inquiry ++ questions_in nodes (next (answer_in nodes inquiry))
-questions-bind nodes (Answer value) next = refl
-questions-bind nodes (Ask question more) next = ap (λ rest. question ∷ rest)
-    (questions-bind nodes (more (reply_in nodes question)) next)
-
--- nothing is asked behind a refusal
-pub questions-refused : {A B E : Type 0} (nodes : Nodes) (inquiry : Inquiry (Result A E)) (next : A → Inquiry (Result B E))
-    (refusal : E)
-    → answer_in nodes inquiry ≡ Err refusal → questions_in nodes (and_then inquiry next) ≡ questions_in nodes inquiry
-questions-refused nodes inquiry next refusal is =
-    questions-bind nodes inquiry (unless_refused next)
-    ∙ ap (λ said. questions_in nodes inquiry ++ questions_in nodes (unless_refused next said)) is
-    ∙ append-nil (questions_in nodes inquiry)
-
--- nor for a verdict on what was answered
-pub questions-said : {A B E : Type 0} (nodes : Nodes) (inquiry : Inquiry (Result A E)) (said : A → Result B E)
-    → questions_in nodes (and_then inquiry (λ value. Answer (said value))) ≡ questions_in nodes inquiry
-questions-said {A} {B} {E} nodes inquiry said =
-    questions-bind nodes inquiry (unless_refused (λ value. Answer (said value)))
-    ∙ ap (λ more. questions_in nodes inquiry ++ more) (none (answer_in nodes inquiry)) ∙ append-nil (questions_in nodes inquiry)
-  where
-    none : (r : Result A E) → questions_in nodes (unless_refused (λ value. Answer (said value)) r) ≡ []
-    none (Ok value) = refl
-    none (Err refusal) = refl
 
 -- what follows from what always holds
 pub always-mapped : {A : Type 0} (P Q : A → Type 0) (inquiry : Inquiry A) → ((value : A) → P value → Q value) → Always P inquiry

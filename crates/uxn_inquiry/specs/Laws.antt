@@ -1,15 +1,14 @@
 -- Laws of calls that ask a tree, one after the other.
-use Rattle.std.specs.Prelude.{◌≡◌, ℕ, ◌+◌, ◌<◌, ◌≤◌, drop, length, true, false, List, [], ◌∷◌, ◌++◌, Result, Ok, Err, Some}
+use Rattle.std.specs.Prelude.{◌≡◌, ℕ, ◌+◌, ◌<◌, ◌≤◌, drop, length, true, false, List, [], ◌∷◌, ◌++◌, Result, Ok, Err}
 use Rattle.std.proofs.Common.{ap, subst, get_or}
 use Rattle.std.proofs.lemmas.List.{drop_all, drop_more}
 use Rattle.uxn_io_traits.specs.Ended.{TreeLooked}
-use Rattle.uxn_io_traits.specs.Files.{Nodes}
 use Rattle.uxn_io_traits.specs.State.{TreeState}
 use Rattle.uxn_inquiry.specs.declared.halt.Halt.{Halt}
 use Rattle.uxn_inquiry.specs.declared.halt.Halt.TheVariants.{Refused, TreeFault, NoMemory}
-use Rattle.uxn_inquiry.specs.Inquiry.{Inquiry, Answer, unless_refused, and_then, through, gather, result_as, refused_as, answer_in}
+use Rattle.uxn_inquiry.specs.Inquiry.{Inquiry, Answer, unless_refused, and_then, through, gather, result_as, refused_as}
 use Rattle.uxn_inquiry.specs.Leads.{Leads, Here}
-use Rattle.uxn_inquiry.specs.LeadsLaws.{leads-then, leads-bind, leads-looked, leads-known, leads-always, stops-looked, stops-bind, stops-then, stops-here}
+use Rattle.uxn_inquiry.specs.LeadsLaws.{leads-then, leads-bind, leads-looked, leads-always, stops-looked, stops-bind, stops-then, stops-here}
 use Rattle.uxn_inquiry.specs.Inquires.{Inquires, IfAnswered, Says, halted_as, tree_failed}
 use Rattle.uxn_inquiry.specs.Along.{Always}
 
@@ -22,14 +21,6 @@ module _ {A B E : Type 0} (view : B → A) (inquiry : Inquiry (Result A E)) (a b
   inquires-looked (Err (Refused refusal)) p = leads-looked (Answer (Err refusal)) b inquiry a p.answers
   inquires-looked (Err TreeFault) p = stops-looked true inquiry a b p.answers
   inquires-looked (Err NoMemory) p = stops-looked false inquiry a b p.answers
-
-  -- over known contents it answers what the inquiry does
-  pub inquires-known : (nodes : Nodes) (r : Result B (Halt E)) → a.contents ≡ Some nodes → Inquires view inquiry a b r
-      → IfAnswered view (λ answer. answer_in nodes inquiry ≡ answer) r
-  inquires-known nodes (Ok value) is p = leads-known (Answer (Ok (view value))) b nodes inquiry a is p.answers
-  inquires-known nodes (Err (Refused refusal)) is p = leads-known (Answer (Err refusal)) b nodes inquiry a is p.answers
-  inquires-known nodes (Err TreeFault) is p = tt
-  inquires-known nodes (Err NoMemory) is p = tt
 
   -- what always holds of the answer holds of it, whatever the tree
   pub always-answers : (P : Result A E → Type 0) (r : Result B (Halt E)) → Always P inquiry → Inquires view inquiry a b r

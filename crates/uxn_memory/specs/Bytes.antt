@@ -2,6 +2,7 @@
 -- and devices address bank 0, and every address is taken modulo 65536 within its bank (Uxntal opcode reference).
 use Rattle.std.specs.Prelude.{ℕ, zero, suc, ◌+◌, ◌-◌, ◌*◌, ◌/◌, ◌%◌, ◌≤◌, List, ◌++◌, length, take, drop, replicate}
 use Rattle.std.specs.Prelude.{slice_index, slice_set, Bool, nat_lt, ◌==◌, ◌&&◌}
+use Rattle.uxn_limits.specs.declared.limits.TheConstants.{LARGEST_ROM}
 
 -- how many bytes all banks have together
 abbrev pub memory_size : ℕ
@@ -9,7 +10,7 @@ memory_size = 1048576
 
 -- the greatest program: it begins at 0100 of bank 0 and ends with the last bank
 abbrev pub largest_rom : ℕ
-largest_rom = 1048320
+largest_rom = LARGEST_ROM
 
 -- this many bytes, all 0
 unfoldable pub zeros : ℕ → List ℕ

@@ -23,6 +23,7 @@ ghost use Rattle.std.specs.Prelude.{
   slice_set,
   EachIndex,
 };
+ghost use Rattle.uxn_limits.specs.declared.addresses.TheConstants.{FIRST_ADDRESS};
 ghost use Rattle.uxn_memory.specs.Banks.{Bank0Law};
 ghost use Rattle.uxn_memory.specs.Bytes.{
   memory_size,
@@ -46,21 +47,20 @@ ghost use Rattle.uxn_memory.specs.Bytes.{
 
 use std::alloc::{AllocError, Global};
 use std::marker::Model;
+use uxn_limits::addresses;
+pub use uxn_limits::limits::LARGEST_ROM;
 
 /// How many banks a memory has.
 pub const BANKS: u8 = 16;
 
 /// How many bytes a bank has.
-pub const BANK_SIZE: usize = 65536;
+pub const BANK_SIZE: usize = addresses::MEMORY_END as usize;
 
 /// How many bytes all banks have together.
 pub const SIZE: usize = 1_048_576;
 
 /// Where a program is loaded and begins, in bank 0.
-pub const START: u16 = 0x0100;
-
-/// How many bytes a program has at most: from `START` to the end of the last bank.
-pub const LARGEST_ROM: usize = 1_048_320;
+pub const START: u16 = addresses::FIRST_ADDRESS as u16;
 
 /// The bytes of all banks, which contracts see as one list.
 ///
@@ -149,12 +149,12 @@ impl Memory {
         self.set(u16::from(at.wrapping_add(1)), (value % 256) as u8);
     }
 
-    /// Puts a program of at most 1,048,320 bytes from `0100` of bank 0 on; from the end of a bank it goes on at `0000` of
+    /// Puts a program of at most `LARGEST_ROM` bytes from `0100` of bank 0 on; from the end of a bank it goes on at `0000` of
     /// the next.
     #[tactic(auto, using(crate::proofs::Kept::kept))]
     pub fn load(&mut self, rom: &[u8])
         requires { length rom.now ≤ largest_rom }
-        ensures { self.new ≡ with_bytes self.old 256 rom.now }
+        ensures { self.new ≡ with_bytes self.old FIRST_ADDRESS rom.now }
     {
         reach(&mut self.bytes, usize::from(START) + rom.len());
         put_bytes(&mut self.bytes, usize::from(START), rom);

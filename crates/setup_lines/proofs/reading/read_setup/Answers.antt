@@ -1,5 +1,6 @@
 use Rattle.std.proofs.Common.{◌≡◌, false, ltb, length, sym, arith, ◌∙◌, ap}
 use Rattle.std.specs.Prelude.{Ok}
+use Rattle.uxn_limits.specs.declared.limits.TheConstants.{TEXT_LIMIT}
 use Rattle.setup_lines.specs.Setups.{setup_of, setup_by}
 use Rattle.setup_lines.proofs.Stepping.{taken, refused}
 use Rattle.setup_lines.proofs.reading.read_setup.Goals as goal
@@ -12,7 +13,7 @@ loop-line-preserved-in-Continue-1 c =
 pub returns-in-Err : goal.returns-in-Err
 unfolding setup_of
 returns-in-Err c =
-    let short : ltb 4194304 (length c.args.text.now) ≡ false = grind (arith, c.if-text-gt-LONGEST.false) in
+    let short : ltb TEXT_LIMIT (length c.args.text.now) ≡ false = grind (arith, c.if-text-gt-TEXT_LIMIT.false) in
     let line = refused c.args.text.now c.in-Some.line.now c.loop-line.lines c.next_line.new.self c.loop-line.gathered c.in-Err.kind
     c.loop-line.invariant c.in-Some.ensures.left c.in-Some.ensures.number c.in-Err.ensures.line in
     rw (short, c.number-line.ensures) (ap setup_by line)

@@ -1,11 +1,5 @@
-use Rattle.std.proofs.Common.{arith, ◌≡◌, ◌∙◌, ap, sym, get_or, ◌+◌, ◌-◌, ◌<◌, length, drop, take, reverse, cond, None}
-use Rattle.std.specs.Prelude.{slice_get}
-use Rattle.std.proofs.lemmas.List.{reverse-append}
-use Rattle.tal_words.specs.Braces.{opens}
-use Rattle.tal_words.specs.Source.{expanded_text}
-use Rattle.tal_words.specs.Order.{each}
-use Rattle.tal_labels.specs.Shapes.{closer_of, closers_of}
-use Rattle.tal_words.proofs.OrderLemmas.{no_word}
+use Rattle.tal_labels.proofs.Common.{arith, ◌≡◌, ◌∙◌, ap, sym, get_or, ◌+◌, ◌-◌, ◌<◌, length, drop, take, reverse, cond, None, slice_get}
+use Rattle.tal_labels.proofs.Common.{reverse-append, opens, expanded_text, each, closer_of, closers_of, no_word}
 use Rattle.tal_labels.proofs.ClosingLemmas.{waiting_from, waiting-step, closer-step}
 use Rattle.tal_labels.proofs.closing.closers_of.Goals as goal
 

@@ -1,6 +1,4 @@
-use Rattle.std.proofs.Common.{◌≡◌, ◌≤◌, length, take, drop, reverse}
-use Rattle.tal_words.specs.Order.{each}
-use Rattle.tal_labels.specs.Shapes.{closer_of}
+use Rattle.tal_labels.proofs.Common.{◌≡◌, ◌≤◌, length, take, drop, reverse, each, closer_of}
 use Rattle.tal_labels.proofs.ClosingLemmas.{waiting_from}
 use Rattle.tal_labels.proofs.closing.closers_of.Given as goal
 

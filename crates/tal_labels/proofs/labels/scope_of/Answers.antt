@@ -1,8 +1,4 @@
-use Rattle.std.proofs.Common.{arith, ap, sym, take, ◌∙◌, not}
-use Rattle.std.specs.Prelude.{◌==◌}
-use Rattle.std.proofs.lemmas.Bool.{eq-eqb}
-use Rattle.std.proofs.lemmas.List.Sums.{prefix_len_is}
-use Rattle.std.proofs.lemmas.List.{take_all}
+use Rattle.tal_labels.proofs.Common.{arith, ap, sym, take, ◌∙◌, not, ◌==◌, eq-eqb, prefix_len_is, take_all}
 use Rattle.tal_labels.proofs.labels.scope_of.Goals as goal
 
 pub returns-then-byte-eq-SLASH : goal.returns-then-byte-eq-SLASH

@@ -1,5 +1,4 @@
-use Rattle.std.proofs.Common.{◌≡◌, ◌<◌, ℕ, true, get_or}
-use Rattle.std.specs.Prelude.{not, ◌==◌}
+use Rattle.tal_labels.proofs.Common.{◌≡◌, ◌<◌, ℕ, true, get_or, not, ◌==◌}
 use Rattle.tal_labels.proofs.labels.scope_of.Given as goal
 
 abbrev pub invariant-loop-length : goal.invariant-loop-length

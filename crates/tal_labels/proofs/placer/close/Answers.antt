@@ -1,7 +1,5 @@
-use Rattle.std.proofs.Common.{◌≡◌, ℕ, zero, suc, ◌<◌, ◌≤◌, List, [], ◌∷◌, length, get_or, Some, refl, sym, ◌∙◌, ap, arith}
-use Rattle.std.specs.Prelude.{slice_set}
-use Rattle.tal_labels.specs.declared.placed.PlacedWord.{PlacedWord}
-use Rattle.tal_labels.specs.Placers.{closed_at, closed_labels}
+use Rattle.tal_labels.proofs.Common.{◌≡◌, ℕ, zero, suc, ◌<◌, ◌≤◌, List, [], ◌∷◌, length, get_or, Some, refl, sym, ◌∙◌, ap, arith, slice_set}
+use Rattle.tal_labels.proofs.Common.{PlacedWord, closed_at, closed_labels}
 use Rattle.tal_labels.proofs.placer.close.Goals as goal
 
 closed_at-set : (at address : ℕ) (words : List PlacedWord) (word : PlacedWord) → word ≡ get_or words at word → at < length words → slice_set words at (record word { lambda = Some address }) ≡ closed_at at address words

@@ -1,10 +1,5 @@
-use Rattle.std.proofs.Common.{◌≡◌, ℕ, ◌+◌, List, [], ◌∷◌, ◌++◌, length, Option, Some, None, true, refl, sym, ◌∙◌, ap, arith}
-use Rattle.std.specs.Prelude.{MatchOption}
-use Rattle.std.specs.Option.{option_to_list}
-use Rattle.tal_words.specs.Braces.{opens}
-use Rattle.tal_words.specs.Order.{last_of}
-use Rattle.tal_words.proofs.OrderLemmas.{last_of-more}
-use Rattle.tal_labels.specs.Placers.{closed_opener}
+use Rattle.tal_labels.proofs.Common.{◌≡◌, ℕ, ◌+◌, List, [], ◌∷◌, ◌++◌, length, Option, Some, None, true, refl, sym, ◌∙◌, ap, arith, MatchOption}
+use Rattle.tal_labels.proofs.Common.{option_to_list, opens, last_of, last_of-more, closed_opener}
 use Rattle.tal_labels.proofs.placer.match_brace.Goals as goal
 
 -- what is taken from the end is the last

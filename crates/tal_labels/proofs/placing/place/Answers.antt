@@ -1,20 +1,11 @@
-use Rattle.std.proofs.Common.{◌≡◌, ap, sym, ◌∙◌, List, Option, Some, None, false, Err, length, take, drop, get_or, arith, refl, ℕ, ◌<◌, ◌≤◌, cond, length-take}
-use Rattle.std.specs.Prelude.{is_some}
+use Rattle.tal_labels.proofs.Common.{◌≡◌, ap, sym, ◌∙◌, List, Option, Some, None, false, Err, length, take, drop, get_or, arith, refl, ℕ, ◌<◌, ◌≤◌}
+use Rattle.tal_labels.proofs.Common.{cond, is_some, take_more, take_all, Expanded, Fault, Gives, phase_fault, each, no_word, each-end, Placer}
+use Rattle.tal_labels.proofs.Common.{FindsNone, added_fault, shape_fault, Layout, layout_of, validated_place, placing_fault, place_fault, PlacerModel}
+use Rattle.tal_labels.proofs.Common.{PlacerIsMaintained, WereAdded, PlacesNext, kept_by}
+use Rattle.std.proofs.Common.{length-take}
 use Rattle.std.proofs.lemmas.Result.{err_from_is_err_and}
-use Rattle.std.proofs.lemmas.List.{take_more, take_all}
-use Rattle.tal_words.specs.declared.span.Expanded.{Expanded}
 use Rattle.tal_words.specs.declared.fault.AsmStop.{AsmStop}
-use Rattle.tal_words.specs.declared.fault.Fault.{Fault}
 use Rattle.tal_words.specs.declared.fault.AsmStop.TheVariants.{Refused, NoMemory}
-use Rattle.tal_words.specs.Faults.{Gives, phase_fault}
-use Rattle.tal_words.specs.Order.{each}
-use Rattle.tal_words.proofs.OrderLemmas.{no_word, each-end}
-use Rattle.tal_labels.specs.declared.placer.Placer.{Placer}
-use Rattle.tal_labels.specs.Answers.{FindsNone}
-use Rattle.tal_labels.specs.Adding.{added_fault}
-use Rattle.tal_labels.specs.Shapes.{shape_fault}
-use Rattle.tal_labels.specs.Placing.{Layout, layout_of, validated_place, placing_fault, place_fault}
-use Rattle.tal_labels.specs.Placers.{PlacerModel, PlacerIsMaintained, WereAdded, PlacesNext, kept_by}
 use Rattle.tal_labels.proofs.AddingLemmas.{place-later, place-here}
 use Rattle.tal_labels.proofs.CallerLemmas.{lie_apart}
 use Rattle.tal_labels.proofs.placing.place.Goals as goal

@@ -1,8 +1,4 @@
-use Rattle.std.proofs.Common.{◌≡◌, false, take, drop}
-use Rattle.tal_words.specs.Faults.{phase_fault}
-use Rattle.tal_words.specs.Order.{each}
-use Rattle.tal_labels.specs.Placing.{validated_place, placing_fault}
-use Rattle.tal_labels.specs.Placers.{PlacerIsMaintained, kept_by}
+use Rattle.tal_labels.proofs.Common.{◌≡◌, false, take, drop, phase_fault, each, validated_place, placing_fault, PlacerIsMaintained, kept_by}
 use Rattle.tal_labels.proofs.placing.place.Given as goal
 
 abbrev pub invariant-loop-word : goal.invariant-loop-word

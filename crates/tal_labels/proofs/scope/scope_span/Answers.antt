@@ -1,12 +1,7 @@
-use Rattle.std.proofs.Common.{◌≡◌, ℕ, ◌+◌, ◌-◌, ◌≤◌, not, List, length, take, drop, refl, ◌∙◌, ap, arith, length-take}
-use Rattle.std.proofs.Math.Seq.{take-append_seam}
-use Rattle.std.proofs.lemmas.List.{take-append-drop, take-append-le, drop-take, drop-drop, length-take}
-use Rattle.std.specs.Prelude.{◌==◌}
-use Rattle.std.specs.List.{prefix_len}
-use Rattle.tal_words.specs.declared.form.Form.TheVariants.{LabelDef}
-use Rattle.tal_words.specs.declared.span.Span.{Span}
-use Rattle.tal_words.specs.Names.{scope_of}
-use Rattle.tal_words.specs.Source.{bytes_at}
+use Rattle.tal_labels.proofs.Common.{◌≡◌, ℕ, ◌+◌, ◌-◌, ◌≤◌, not, List, length, take, drop, refl, ◌∙◌, ap, arith, take-append_seam, take-append-drop}
+use Rattle.tal_labels.proofs.Common.{take-append-le, drop-take, drop-drop, ◌==◌, prefix_len, LabelDef, Span, scope_of, bytes_at}
+use Rattle.std.proofs.Common.{length-take}
+use Rattle.std.proofs.lemmas.List.{length-take}
 use Rattle.tal_labels.proofs.LabelNames.{not_empty}
 use Rattle.tal_labels.proofs.scope.scope_span.Goals as goal
 

@@ -1,5 +1,4 @@
-use Rattle.std.specs.Prelude.{is_some}
-use Rattle.std.proofs.Common.{arith, ◌∙◌, ap, sym, length, Some}
+use Rattle.tal_labels.proofs.Common.{is_some, arith, ◌∙◌, ap, sym, length, Some}
 use Rattle.tal_labels.proofs.ShapeLemmas.{length-closers_of, nothing_shaped, next_shaped, faulty_shape, all_shaped}
 use Rattle.tal_labels.proofs.shapes.check_shapes.Goals as goal
 

@@ -1,6 +1,4 @@
-use Rattle.std.proofs.Common.{ap, ◌∙◌}
-use Rattle.std.specs.Option.{option_map}
-use Rattle.tal_macros.specs.Bodies.{body_words}
+use Rattle.tal_macros.proofs.Common.{ap, ◌∙◌, option_map, body_words}
 use Rattle.tal_macros.proofs.Known.{known-lookup}
 use Rattle.tal_macros.proofs.body.body_named.Goals as goal
 

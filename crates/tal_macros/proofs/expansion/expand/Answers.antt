@@ -1,6 +1,4 @@
-use Rattle.std.proofs.Common.{◌≡◌, ◌∷◌, [], ◌++◌, length, ap, sym, ◌∙◌, arith}
-use Rattle.tal_macros.specs.Expansion.{expanded_of}
-use Rattle.tal_macros.specs.Steps.{Progress, given, words_left, advanced}
+use Rattle.tal_macros.proofs.Common.{◌≡◌, ◌∷◌, [], ◌++◌, length, ap, sym, ◌∙◌, arith, expanded_of, Progress, given, words_left, advanced}
 use Rattle.tal_macros.proofs.GivenLemmas.{given-more, given-whole, given-few, next-visited}
 use Rattle.tal_macros.proofs.expansion.expand.Goals as goal
 

@@ -1,5 +1,4 @@
-use Rattle.std.proofs.Common.{[]}
-use Rattle.tal_macros.specs.Expansion.{parts_of}
+use Rattle.tal_macros.proofs.Common.{[], parts_of}
 use Rattle.tal_macros.proofs.GivenLemmas.{given-more, given-all, left-again}
 use Rattle.tal_macros.proofs.StepLemmas.{visits_before_fault-prefix, visits_before_fault-all, validated-steps}
 use Rattle.tal_macros.proofs.expansion.expanders_give_the_list.Goals as goal

@@ -1,5 +1,4 @@
-use Rattle.std.proofs.Common.{ap, sym, ◌∙◌}
-use Rattle.tal_words.specs.Names.{name_fault}
+use Rattle.tal_macros.proofs.Common.{ap, sym, ◌∙◌, name_fault}
 use Rattle.tal_macros.proofs.HeadLemmas.{least_name}
 use Rattle.tal_macros.proofs.head.closed_head.Goals as goal
 

@@ -1,6 +1,4 @@
-use Rattle.std.proofs.Common.{◌≡◌, [], ◌∷◌, ◌++◌, drop, refl, ap, ◌∙◌, arith}
-use Rattle.tal_macros.specs.Expansion.{body_named}
-use Rattle.tal_macros.specs.Bodies.{body_words, known_macros}
+use Rattle.tal_macros.proofs.Common.{◌≡◌, [], ◌∷◌, ◌++◌, drop, refl, ap, ◌∙◌, arith, body_named, body_words, known_macros}
 use Rattle.tal_macros.proofs.HeadLemmas.{head-refuses, head-continues, body-refuses}
 use Rattle.tal_macros.proofs.Known.{known-insert}
 use Rattle.tal_macros.proofs.head.define.Goals as goal

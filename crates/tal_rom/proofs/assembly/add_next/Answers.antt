@@ -1,7 +1,4 @@
-use Rattle.std.proofs.Common.{◌≡◌, sym, ap, ◌∙◌, arith}
-use Rattle.tal_macros.specs.Expansion.{expanded_of}
-use Rattle.tal_macros.specs.Steps.{Progress, given, words_left, advanced}
-use Rattle.tal_macros.proofs.GivenLemmas.{given-whole, next-visited}
+use Rattle.tal_rom.proofs.Common.{◌≡◌, sym, ap, ◌∙◌, arith, expanded_of, Progress, given, words_left, advanced, given-whole, next-visited}
 use Rattle.tal_rom.proofs.OnePass.{was_given, further}
 use Rattle.tal_rom.proofs.assembly.add_next.Goals as goal
 

@@ -1,6 +1,4 @@
-use Rattle.std.proofs.Common.{List}
-use Rattle.std.proofs.lemmas.Result.{err_from_is_err_and}
-use Rattle.std.specs.Global.{Vec}
+use Rattle.tal_rom.proofs.Common.{List, err_from_is_err_and, Vec}
 use Rattle.tal_words.specs.declared.span.Word.{Word}
 use Rattle.tal_rom.proofs.AssemblyLemmas.{stopped, words_first}
 use Rattle.tal_rom.proofs.assembly.assemble.Goals as goal

@@ -1,9 +1,4 @@
-use Rattle.std.proofs.Common.{ℕ, List, ap, sym, ◌∙◌}
-use Rattle.std.proofs.lemmas.Result.{err_from_is_err_and}
-use Rattle.std.specs.Global.{Vec}
-use Rattle.tal_words.specs.declared.span.Expanded.{Expanded}
-use Rattle.tal_labels.specs.Placing.{Layout, place_fault}
-use Rattle.tal_rom.specs.References.{reference_fault}
+use Rattle.tal_rom.proofs.Common.{ℕ, List, ap, sym, ◌∙◌, err_from_is_err_and, Vec, Expanded, Layout, place_fault, reference_fault}
 use Rattle.tal_rom.proofs.AssemblyLemmas.{stopped, expansion_first, places_first, references_first, laid_out, assembled}
 use Rattle.tal_rom.proofs.assembly.by_phases.Goals as goal
 

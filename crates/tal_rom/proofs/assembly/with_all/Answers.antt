@@ -1,6 +1,4 @@
-use Rattle.std.proofs.Common.{◌≡◌, true, refl, sym, ◌∙◌, arith, rules}
-use Rattle.tal_macros.specs.Expansion.{expanded_of}
-use Rattle.tal_rom.specs.Patching.{waiting_count, all_fit}
+use Rattle.tal_rom.proofs.Common.{◌≡◌, true, refl, sym, ◌∙◌, arith, rules, expanded_of, waiting_count, all_fit}
 use Rattle.tal_rom.proofs.AssemblyLemmas.{assembled}
 use Rattle.tal_rom.proofs.OnePass.{contents, patched}
 use Rattle.tal_rom.proofs.assembly.with_all.Goals as goal

@@ -1,7 +1,4 @@
-use Rattle.std.proofs.Common.{◌≡◌, ◌≤◌, ◌+◌, length, take, get_or, refl, sym, arith, length-take}
-use Rattle.std.specs.Prelude.{slice_set}
-use Rattle.std.proofs.lemmas.List.{take_more, set_past}
-use Rattle.tal_rom.specs.Filling.{overlaid}
+use Rattle.tal_rom.proofs.Common.{◌≡◌, ◌≤◌, ◌+◌, length, take, get_or, refl, sym, arith, length-take, slice_set, take_more, set_past, overlaid}
 use Rattle.tal_rom.proofs.Moving.{overlaid-push}
 use Rattle.tal_rom.proofs.patch.put.Goals.{then-index-len, else-index-len}
 use Rattle.tal_rom.proofs.patch.put.Goals as goal

@@ -1,5 +1,4 @@
-use Rattle.std.proofs.Common.{◌≡◌, take}
-use Rattle.tal_rom.specs.Filling.{overlaid}
+use Rattle.tal_rom.proofs.Common.{◌≡◌, take, overlaid}
 use Rattle.tal_rom.proofs.patch.put.Given as goal
 
 abbrev pub invariant-loop-offset : goal.invariant-loop-offset

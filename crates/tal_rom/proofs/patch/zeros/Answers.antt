@@ -1,6 +1,6 @@
-use Rattle.std.proofs.Common.{◌≡◌, ◌*◌, ◌+◌, ◌++◌, ℕ, List, length, get_or, ap, ◌∙◌, arith, replicate}
-use Rattle.std.proofs.lemmas.List.{length-replicate, replicate-append-replicate}
-use Rattle.tal_rom.proofs.Zeros.{zeros_read}
+use Rattle.tal_rom.proofs.Common.{◌≡◌, ◌*◌, ◌+◌, ◌++◌, ℕ, List, length, get_or, ap, ◌∙◌, arith, replicate, length-replicate}
+use Rattle.tal_rom.proofs.Common.{replicate-append-replicate}
+use Rattle.tal_rom.proofs.Trimming.{zeros_read}
 use Rattle.tal_rom.proofs.patch.zeros.Goals as goal
 
 pub loop-preserved : goal.loop-preserved

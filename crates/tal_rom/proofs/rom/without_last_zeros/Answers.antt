@@ -1,8 +1,5 @@
-use Rattle.std.proofs.Common.{◌≡◌, ◌-◌, true, length, drop, replicate, refl, sym, ap, ◌∙◌, arith}
-use Rattle.std.proofs.lemmas.Bool.Decides.{Decides-eqb}
-use Rattle.std.proofs.lemmas.Slice.Eq.{slice_eq-Decides}
-use Rattle.tal_rom.specs.Rom.{trimmed}
-use Rattle.tal_rom.proofs.Zeros.{stripped}
+use Rattle.tal_rom.proofs.Common.{◌≡◌, ◌-◌, true, length, drop, replicate, refl, sym, ap, ◌∙◌, arith, Decides-eqb, slice_eq-Decides, trimmed}
+use Rattle.tal_rom.proofs.Trimming.{stripped}
 use Rattle.tal_rom.proofs.rom.without_last_zeros.Goals as goal
 
 pub loop-prefix-preserved : goal.loop-prefix-preserved

@@ -1,5 +1,4 @@
-use Rattle.std.proofs.Common.{◌≡◌, ◌≤◌, length}
-use Rattle.tal_rom.specs.Rom.{trimmed}
+use Rattle.tal_rom.proofs.Common.{◌≡◌, ◌≤◌, length, trimmed}
 use Rattle.tal_rom.proofs.rom.without_last_zeros.Given as goal
 
 abbrev pub invariant-loop-prefix : goal.invariant-loop-prefix

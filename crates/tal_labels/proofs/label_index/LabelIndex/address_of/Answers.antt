@@ -1,5 +1,4 @@
-use Rattle.std.proofs.Common.{ap, ◌∙◌}
-use Rattle.tal_words.specs.Labels.{address_named}
+use Rattle.tal_labels.proofs.Common.{ap, ◌∙◌, address_named}
 use Rattle.tal_labels.proofs.IndexLemmas.{lookup-named}
 use Rattle.tal_labels.proofs.label_index.LabelIndex.address_of.Goals as goal
 

@@ -1,5 +1,4 @@
-use Rattle.std.proofs.Common.{ap, sym, ◌∙◌, ◌++◌, ◌∷◌, [], map, Some}
-use Rattle.tal_labels.specs.Placing.{is_defined}
+use Rattle.tal_labels.proofs.Common.{ap, sym, ◌∙◌, ◌++◌, ◌∷◌, [], map, Some, is_defined}
 use Rattle.tal_labels.proofs.IndexLemmas.{label_of_entry, labels-insert}
 use Rattle.tal_labels.proofs.label_index.LabelIndex.define.Goals as goal
 

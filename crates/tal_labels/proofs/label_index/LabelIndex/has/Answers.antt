@@ -1,7 +1,4 @@
-use Rattle.std.proofs.Common.{ap, sym, ◌∙◌}
-use Rattle.std.specs.Prelude.{is_some}
-use Rattle.tal_labels.specs.Placing.{is_defined}
-use Rattle.std.proofs.Common.{Some}
+use Rattle.tal_labels.proofs.Common.{ap, sym, ◌∙◌, is_some, is_defined, Some}
 use Rattle.tal_labels.proofs.IndexLemmas.{copied-some, lookup-some}
 use Rattle.tal_labels.proofs.label_index.LabelIndex.has.Goals as goal
 

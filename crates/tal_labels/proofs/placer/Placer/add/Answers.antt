@@ -1,9 +1,5 @@
-use Rattle.std.proofs.Common.{◌≡◌, ℕ, List, [], ◌∷◌, ◌++◌, true, false, Some, None, refl, sym, ◌∙◌, ap}
-use Rattle.std.specs.Prelude.{is_some}
-use Rattle.tal_words.specs.declared.span.Expanded.{Expanded}
-use Rattle.tal_labels.specs.declared.placer.Placer.{Placer}
-use Rattle.tal_labels.specs.Adding.{added_fault, word_added}
-use Rattle.tal_labels.specs.Placers.{WereAdded}
+use Rattle.tal_labels.proofs.Common.{◌≡◌, ℕ, List, [], ◌∷◌, ◌++◌, true, false, Some, None, refl, sym, ◌∙◌, ap, is_some, Expanded, Placer, added_fault}
+use Rattle.tal_labels.proofs.Common.{word_added, WereAdded}
 use Rattle.tal_labels.proofs.IndexLemmas.{none_since}
 use Rattle.tal_labels.proofs.AddingLemmas.{added-prefix, added-still, added-faulty}
 use Rattle.tal_labels.proofs.placer.Placer.add.Goals as goal

@@ -1,13 +1,6 @@
-use Rattle.std.proofs.Common.{◌≡◌, ℕ, Bool, not, ◌&&◌, List, [], ◌∷◌, length, Option, Some, None, refl, sym, ◌∙◌, ap, arith}
+use Rattle.tal_labels.proofs.Common.{◌≡◌, ℕ, Bool, not, ◌&&◌, List, [], ◌∷◌, length, Option, Some, None, refl, sym, ◌∙◌, ap, arith, ◌==◌, is_some}
+use Rattle.tal_labels.proofs.Common.{nat_tests, Expanded, Fault, Placer, added_fault, open_ones, place_fault, WereAdded}
 use Rattle.tal_labels.proofs.OpenLemmas.{twice}
-use Rattle.std.specs.Prelude.{◌==◌, is_some}
-use Rattle.std.proofs.lemmas.Bool.Decides.{nat_tests}
-use Rattle.tal_words.specs.declared.span.Expanded.{Expanded}
-use Rattle.tal_words.specs.declared.fault.Fault.{Fault}
-use Rattle.tal_labels.specs.declared.placer.Placer.{Placer}
-use Rattle.tal_labels.specs.Adding.{added_fault, open_ones}
-use Rattle.tal_labels.specs.Placing.{place_fault}
-use Rattle.tal_labels.specs.Placers.{WereAdded}
 use Rattle.tal_labels.proofs.IndexLemmas.{none_since}
 use Rattle.tal_labels.proofs.AddingLemmas.{place-none, added-none}
 use Rattle.tal_labels.proofs.placer.Placer.finish.Goals as goal

@@ -1,10 +1,5 @@
-use Rattle.std.proofs.Common.{refl, sym, arith}
-use Rattle.std.proofs.lemmas.Bool.{le-ltb}
-use Rattle.tal_labels.specs.Adding.{added_fault, open_ones}
-use Rattle.tal_labels.specs.Labels.{scope_after, labels_of}
-use Rattle.tal_labels.specs.Places.{address_after}
-use Rattle.tal_labels.specs.Placing.{ends_of, placed_of}
-use Rattle.tal_labels.specs.Shapes.{open_count}
+use Rattle.tal_labels.proofs.Common.{refl, sym, arith, le-ltb, added_fault, open_ones, scope_after, labels_of, address_after, ends_of, placed_of}
+use Rattle.tal_labels.proofs.Common.{open_count}
 use Rattle.tal_labels.proofs.placer.Placer.new.Goals as goal
 
 pub returns : goal.returns

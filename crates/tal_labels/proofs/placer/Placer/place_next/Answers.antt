@@ -1,14 +1,6 @@
-use Rattle.std.proofs.Common.{◌≡◌, ℕ, ◌-◌, ◌≤◌, List, length, drop, length-take, length-drop, true, Some, None, Ok, sym, ◌∙◌, ap, arith}
-use Rattle.std.specs.Option.{option_map}
-use Rattle.tal_words.specs.declared.span.Span.{Span}
-use Rattle.tal_words.specs.Source.{bytes_at}
-use Rattle.tal_words.specs.declared.form.Form.{Form}
-use Rattle.tal_words.specs.declared.form.Form.TheVariants.{LambdaEnd}
-use Rattle.tal_words.specs.Forms.{form, size}
-use Rattle.std.proofs.Math.Dec.{ltb}
-use Rattle.tal_labels.specs.Labels.{defined_name}
-use Rattle.tal_labels.specs.Placing.{is_mark_form, formed_marks, is_defined}
-use Rattle.tal_labels.specs.Placers.{kept_by}
+use Rattle.tal_labels.proofs.Common.{◌≡◌, ℕ, ◌-◌, ◌≤◌, List, length, drop, length-drop, true, Some, None, Ok, sym, ◌∙◌, ap, arith, option_map, Span}
+use Rattle.tal_labels.proofs.Common.{bytes_at, Form, LambdaEnd, form, size, ltb, defined_name, is_mark_form, formed_marks, is_defined, kept_by}
+use Rattle.std.proofs.Common.{length-take}
 use Rattle.tal_labels.proofs.LayingLemmas.{well_placed}
 use Rattle.tal_labels.proofs.PlacedLemmas.{form-closes}
 use Rattle.tal_labels.proofs.KeptLemmas.{IsNext, refused_shape, validated_next, next_kept}

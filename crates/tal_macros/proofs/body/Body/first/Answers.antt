@@ -1,5 +1,4 @@
-use Rattle.std.proofs.Common.{◌≡◌, ◌+◌, ◌-◌, suc, refl, arith}
-use Rattle.std.proofs.lemmas.List.{drop_more}
+use Rattle.tal_macros.proofs.Common.{◌≡◌, ◌+◌, ◌-◌, suc, refl, arith, drop_more}
 use Rattle.tal_macros.proofs.body.Body.first.Goals as goal
 
 pub returns-then-self-to-clause-word : goal.returns-then-self-to-clause-word

@@ -1,5 +1,4 @@
-use Rattle.std.proofs.Common.{refl}
-use Rattle.tal_macros.specs.Passing.{left}
+use Rattle.tal_macros.proofs.Common.{refl, left}
 use Rattle.tal_macros.proofs.FollowLemmas.{follows-start}
 use Rattle.tal_macros.proofs.expansion.Expander.new.Goals as goal
 

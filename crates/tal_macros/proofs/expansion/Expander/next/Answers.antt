@@ -1,6 +1,4 @@
-use Rattle.std.proofs.Common.{ap, sym, ◌∙◌}
-use Rattle.tal_macros.specs.Steps.{reached}
-use Rattle.tal_macros.specs.Passing.{fault_of}
+use Rattle.tal_macros.proofs.Common.{ap, sym, ◌∙◌, reached, fault_of}
 use Rattle.tal_macros.proofs.FollowLemmas.{follows-turn, follows-given, next-given, next-none}
 use Rattle.tal_macros.proofs.expansion.Expander.next.Goals as goal
 

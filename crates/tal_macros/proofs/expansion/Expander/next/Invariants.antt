@@ -1,5 +1,4 @@
-use Rattle.std.proofs.Common.{◌≡◌}
-use Rattle.tal_macros.specs.Passing.{Follows, to_go}
+use Rattle.tal_macros.proofs.Common.{◌≡◌, Follows, to_go}
 use Rattle.tal_macros.proofs.expansion.Expander.next.Given as goal
 
 abbrev pub invariant-loop-word : goal.invariant-loop-word

@@ -1,8 +1,5 @@
-use Rattle.std.proofs.Common.{inl, refl, ap, sym, ◌∙◌, arith}
+use Rattle.tal_macros.proofs.Common.{inl, refl, ap, sym, ◌∙◌, arith, begins, known_macros, left}
 use Rattle.std.proofs.lemmas.Result.{err_from_is_err_and}
-use Rattle.tal_words.specs.Source.{begins}
-use Rattle.tal_macros.specs.Bodies.{known_macros}
-use Rattle.tal_macros.specs.Passing.{left}
 use Rattle.tal_macros.proofs.PassLemmas.{steps-end, steps-source, continues-same, left-nothing}
 use Rattle.tal_macros.proofs.pass.Pass.source_word.Goals as goal
 

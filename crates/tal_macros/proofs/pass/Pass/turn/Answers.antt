@@ -1,8 +1,4 @@
-use Rattle.std.proofs.Common.{◌++◌, inl, Option, refl, ap, ◌∙◌, arith, ◌∷◌, [], length, length-append}
-use Rattle.std.specs.Option.{option_to_list}
-use Rattle.tal_macros.specs.declared.body.Body.{Body}
-use Rattle.tal_macros.specs.Bodies.{known_macros}
-use Rattle.tal_macros.specs.Passing.{left}
+use Rattle.tal_macros.proofs.Common.{◌++◌, inl, Option, refl, ap, ◌∙◌, arith, ◌∷◌, [], length, length-append, option_to_list, Body, known_macros, left}
 use Rattle.tal_macros.proofs.PassLemmas.{pending-push, continues-same}
 use Rattle.tal_macros.proofs.pass.Pass.turn.Goals as goal
 

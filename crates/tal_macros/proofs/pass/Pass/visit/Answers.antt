@@ -1,17 +1,7 @@
-use Rattle.std.proofs.Common.{◌≡◌, ℕ, ◌+◌, ◌-◌, ◌<◌, inr, true, List, ◌∷◌, [], ◌++◌, length, Option, Some, None, is_some, refl, ap, sym, ◌∙◌, arith}
-use Rattle.std.specs.Prelude.{unwrap_or}
-use Rattle.std.specs.List.{flat_map}
-use Rattle.std.specs.Option.{option_map}
-use Rattle.tal_words.specs.declared.span.Word.{Word}
-use Rattle.tal_words.specs.declared.span.Expanded.{Expanded}
-use Rattle.tal_words.specs.declared.fault.FaultKind.{FaultKind}
-use Rattle.tal_words.specs.Source.{word_text}
-use Rattle.tal_words.specs.Faults.{least, fault_at}
-use Rattle.tal_macros.specs.declared.body.Body.{Body}
-use Rattle.tal_macros.specs.declared.pass.Pass.{Pass}
-use Rattle.tal_macros.specs.Bodies.{body_words, known_macros}
-use Rattle.tal_macros.specs.Expansion.{Macro, Visited, body_named, visited, visits, visit_kinds, depth_limit, visit_limit}
-use Rattle.tal_macros.specs.Passing.{left, steps_from, RefusesInSteps, Visits}
+use Rattle.tal_macros.proofs.Common.{◌≡◌, ℕ, ◌+◌, ◌-◌, ◌<◌, inr, true, List, ◌∷◌, [], ◌++◌, length, Option, Some, None, is_some, refl, ap, sym, ◌∙◌}
+use Rattle.tal_macros.proofs.Common.{arith, unwrap_or, flat_map, option_map, Word, Expanded, FaultKind, word_text, least, fault_at, Body, Pass}
+use Rattle.tal_macros.proofs.Common.{body_words, known_macros, MACRO_DEPTH, VISIT_LIMIT, Macro, Visited, body_named, visited, visits, visit_kinds}
+use Rattle.tal_macros.proofs.Common.{left, steps_from, RefusesInSteps, Visits}
 use Rattle.tal_macros.proofs.PassLemmas.{pending, pending-push, steps-word, steps-inside, refuses-at, continues-along, continues-same}
 use Rattle.tal_macros.proofs.pass.Pass.visit.Goals as goal
 
@@ -20,7 +10,7 @@ module _ (source : List ℕ) (words : List Word) (old : Pass) (word : Word) (tex
     (first : body_words words old.body ≡ word ∷ body_words words (record { from = old.body.from + 1; to = old.body.to })) (is_text : text ≡ word_text source word)
     (ensured : (all : List Word) → option_map (body_words all) used ≡ body_named (known_macros all old.macros.entries) text)
     (answer : Option FaultKind)
-    (validated : (word : Visited) → word.is_use ≡ is_some used → word.room ≡ depth_limit - length old.outer.items → answer ≡ least (visit_kinds old.count word)) where
+    (validated : (word : Visited) → word.is_use ≡ is_some used → word.room ≡ MACRO_DEPTH - length old.outer.items → answer ≡ least (visit_kinds old.count word)) where
   abbrev known : List Macro
   known = known_macros words old.macros.entries
 
@@ -28,7 +18,7 @@ module _ (source : List ℕ) (words : List Word) (old : Pass) (word : Word) (tex
   next = record { from = old.body.from + 1; to = old.body.to }
 
   abbrev observed : Visited
-  observed = visited source known old.origin (depth_limit - length old.outer.items) word
+  observed = visited source known old.origin (MACRO_DEPTH - length old.outer.items) word
 
   named : body_named known (word_text source word) ≡ option_map (body_words words) used
   named = rw (← is_text) (sym (ensured words))
@@ -41,9 +31,9 @@ module _ (source : List ℕ) (words : List Word) (old : Pass) (word : Word) (tex
   refused kind is =
       refuses-at _ _ _ _ kind (steps-word source words known old.origin old.outer.items old.body next word old.count old.at first).1 (sym (validated observed is_use refl) ∙ is)
 
-  sound : answer ≡ None → (answer ≡ None → is_some used ≡ true → length old.outer.items < depth_limit) → (answer ≡ None → old.count < visit_limit)
+  sound : answer ≡ None → (answer ≡ None → is_some used ≡ true → length old.outer.items < MACRO_DEPTH) → (answer ≡ None → old.count < VISIT_LIMIT)
       → (new : Pass) → new.count ≡ old.count + 1
-      → left source words new ≡ steps_from source words known (old.count + 1) (flat_map (visits source known old.origin (depth_limit - length old.outer.items - 1))
+      → left source words new ≡ steps_from source words known (old.count + 1) (flat_map (visits source known old.origin (MACRO_DEPTH - length old.outer.items - 1))
       (unwrap_or (option_map (body_words words) used) []) ++ pending source words known old.origin old.outer.items next) old.at
       → (observed : Visited) × (observed.is_use ≡ is_some used) × ◌≡◌ {A = Expanded} (record { text = word.span; origin = old.origin }) (record { text = observed.text; origin = observed.origin }) × Visits source words old new observed
   unfolding left

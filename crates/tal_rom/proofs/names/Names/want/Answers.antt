@@ -1,9 +1,5 @@
-use Rattle.std.proofs.Common.{◌≡◌, ◌∷◌, [], Option, false, sym, arith}
-use Rattle.std.specs.Prelude.{is_some}
+use Rattle.tal_rom.proofs.Common.{◌≡◌, ◌∷◌, [], Option, false, sym, arith, is_some, option_copied, Named, wanted_of}
 use Rattle.std.specs.Borrow.{Bor}
-use Rattle.std.specs.Option.{option_copied}
-use Rattle.tal_rom.specs.declared.hole.Named.{Named}
-use Rattle.tal_rom.specs.Holes.{wanted_of}
 use Rattle.tal_rom.proofs.NameLemmas.{found, inserts, known_same, wanted_more}
 use Rattle.tal_rom.proofs.names.Names.want.Goals as goal
 

@@ -1,7 +1,4 @@
-use Rattle.std.proofs.Common.{◌∷◌, [], ap, sym}
-use Rattle.std.proofs.lemmas.Result.{err_from_is_err_and}
-use Rattle.tal_rom.specs.declared.hole.Named.{Named}
-use Rattle.tal_rom.specs.Holes.{known_address}
+use Rattle.tal_rom.proofs.Common.{◌∷◌, [], ap, sym, err_from_is_err_and, Named, known_address}
 use Rattle.tal_rom.proofs.NameLemmas.{sets, known_same, wanted_same, wanted_more}
 use Rattle.tal_rom.proofs.names.Names.want_too.Goals as goal
 

@@ -1,6 +1,4 @@
-use Rattle.std.proofs.Common.{◌≡◌, [], ◌∷◌, refl, sym, ◌∙◌, arith, append-nil}
-use Rattle.std.proofs.lemmas.List.{nil_from_length}
-use Rattle.tal_rom.specs.declared.hole.Hole.{Hole}
+use Rattle.tal_rom.proofs.Common.{◌≡◌, [], ◌∷◌, refl, sym, ◌∙◌, arith, append-nil, nil_from_length, Hole}
 use Rattle.tal_rom.proofs.Holding.{holds_settled, closes_last, nothing_left, IsSettled}
 use Rattle.tal_rom.proofs.patch.Patch.close.Goals as goal
 

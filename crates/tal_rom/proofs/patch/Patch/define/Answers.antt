@@ -1,5 +1,4 @@
-use Rattle.std.proofs.Common.{refl, ◌∙◌}
-use Rattle.tal_words.specs.declared.name.Label.{Label}
+use Rattle.tal_rom.proofs.Common.{refl, ◌∙◌, Label}
 use Rattle.tal_rom.proofs.Holding.{IsSettled, holds_settled, settle_label, known_more, wanted_more}
 use Rattle.tal_rom.proofs.patch.Patch.define.Goals as goal
 

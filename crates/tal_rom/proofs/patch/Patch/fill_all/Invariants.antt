@@ -1,8 +1,4 @@
-use Rattle.std.proofs.Common.{◌≡◌, ◌-◌, ◌&&◌, take}
-use Rattle.std.specs.Prelude.{fold}
-use Rattle.std.specs.List.{list_all}
-use Rattle.tal_words.specs.Forms.{reaches}
-use Rattle.tal_rom.specs.Filling.{filled_hole}
+use Rattle.tal_rom.proofs.Common.{◌≡◌, ◌-◌, ◌&&◌, take, fold, list_all, reaches, filled_hole}
 use Rattle.tal_rom.proofs.patch.Patch.fill_all.Given as goal
 
 abbrev pub invariant-loop-hole : goal.invariant-loop-hole

@@ -1,5 +1,4 @@
-use Rattle.std.proofs.Common.{refl}
-use Rattle.tal_rom.specs.Rom.{byte_at}
+use Rattle.tal_rom.proofs.Common.{refl, byte_at}
 use Rattle.tal_rom.proofs.patch.Patch.new.Goals as goal
 
 pub returns : goal.returns

@@ -1,8 +1,4 @@
-use Rattle.std.proofs.Common.{◌≡◌, length, drop, refl, ap, ◌∙◌, arith}
-use Rattle.std.specs.Prelude.{min}
-use Rattle.std.proofs.lemmas.List.{drop_min}
-use Rattle.tal_words.specs.Forms.{encoded}
-use Rattle.tal_rom.specs.Filling.{overlaid}
+use Rattle.tal_rom.proofs.Common.{◌≡◌, length, drop, refl, ap, ◌∙◌, arith, min, drop_min, encoded, overlaid}
 use Rattle.tal_rom.proofs.Holding.{holds_more, put_more, few_are}
 use Rattle.tal_rom.proofs.patch.Patch.put_word.Goals as goal
 

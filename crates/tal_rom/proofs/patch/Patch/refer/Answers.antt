@@ -1,5 +1,4 @@
-use Rattle.std.proofs.Common.{◌≡◌, ◌+◌, refl, ap, sym, ◌∙◌, arith}
-use Rattle.tal_rom.specs.Holes.{known_in}
+use Rattle.tal_rom.proofs.Common.{◌≡◌, ◌+◌, refl, ap, sym, ◌∙◌, arith, known_in}
 use Rattle.tal_rom.proofs.Holding.{holds_more, known_target, wants_more, waiting_small}
 use Rattle.tal_rom.proofs.patch.Patch.refer.Goals as goal
 

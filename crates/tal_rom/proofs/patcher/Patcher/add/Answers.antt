@@ -1,8 +1,5 @@
-use Rattle.std.proofs.Common.{◌≡◌, refl, ap, sym, ◌∙◌}
-use Rattle.tal_words.specs.Source.{expanded_text}
-use Rattle.tal_labels.specs.Answers.{next_scope}
+use Rattle.tal_rom.proofs.Common.{ap, sym, ◌∙◌, expanded_text, next_scope, scope_after-append}
 use Rattle.tal_labels.specs.Scopes.{scope_text}
-use Rattle.tal_labels.proofs.LayingLemmas.{scope_after-append}
 use Rattle.tal_rom.proofs.AddedLemmas.{next_behind, given_next}
 use Rattle.tal_rom.proofs.patcher.Patcher.add.Goals as goal
 

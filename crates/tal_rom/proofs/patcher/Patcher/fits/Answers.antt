@@ -1,6 +1,4 @@
-use Rattle.std.proofs.Common.{not, ap, sym, ◌∙◌}
-use Rattle.std.specs.List.{list_any}
-use Rattle.tal_rom.specs.Patching.{is_far, all_fit}
+use Rattle.tal_rom.proofs.Common.{not, ap, sym, ◌∙◌, list_any, is_far, all_fit}
 use Rattle.tal_rom.proofs.AddedLemmas.{added_are}
 use Rattle.tal_rom.proofs.patcher.Patcher.fits.Goals as goal
 

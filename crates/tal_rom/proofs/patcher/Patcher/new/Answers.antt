@@ -1,7 +1,4 @@
-use Rattle.std.proofs.Common.{◌≡◌, refl, ap, sym, ◌∙◌}
-use Rattle.tal_labels.specs.Adding.{added_fault}
-use Rattle.tal_labels.specs.Labels.{scope_after, labels_of}
-use Rattle.tal_labels.specs.Placing.{placed_of}
+use Rattle.tal_rom.proofs.Common.{refl, added_fault, scope_after, labels_of, placed_of}
 use Rattle.tal_rom.proofs.patcher.Patcher.new.Goals as goal
 
 pub returns : goal.returns

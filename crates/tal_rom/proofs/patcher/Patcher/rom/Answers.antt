@@ -1,14 +1,10 @@
-use Rattle.std.proofs.Common.{◌≡◌, ◌+◌, ℕ, List, length, map, ap, ◌∙◌, arith}
-use Rattle.std.proofs.lemmas.Result.{IfOk-weaker}
-use Rattle.std.proofs.lemmas.List.FromFn.{length-map-range_with_len}
-use Rattle.tal_words.specs.declared.span.Expanded.{Expanded}
-use Rattle.tal_rom.specs.Rom.{byte_at, trimmed}
-use Rattle.tal_rom.specs.Patching.{known_piece, added_of, image_of}
+use Rattle.tal_rom.proofs.Common.{◌≡◌, ◌+◌, ℕ, List, length, map, ap, ◌∙◌, arith, IfOk-weaker, length-map-range_with_len, Expanded, byte_at, trimmed}
+use Rattle.tal_rom.proofs.Common.{rom_limit, known_piece, added_of, image_of}
 use Rattle.tal_rom.proofs.patcher.Patcher.rom.Goals as goal
 
-length-image : (source : List ℕ) (words : List Expanded) → length (image_of source words) ≡ 65280
+length-image : (source : List ℕ) (words : List Expanded) → length (image_of source words) ≡ rom_limit
 unfolding image_of
-length-image source words = length-map-range_with_len (λ i. byte_at (map known_piece (added_of source words)) (256 + i)) 0 65280
+length-image source words = length-map-range_with_len (λ i. byte_at (map known_piece (added_of source words)) (256 + i)) 0 rom_limit
 
 pub returns : goal.returns
 returns c =

@@ -1,12 +1,6 @@
-use Rattle.std.proofs.Common.{◌≡◌, ◌<◌, true, false, Some, Ok, refl, ap, sym, ◌∙◌, arith, rules}
-use Rattle.tal_words.specs.declared.form.Form.TheVariants.{Refer}
-use Rattle.tal_words.specs.Braces.{opens, closes}
-use Rattle.tal_words.specs.Forms.{size}
-use Rattle.tal_words.specs.Names.{full_name, name_after_rune}
-use Rattle.tal_words.specs.Source.{expanded_text}
-use Rattle.tal_labels.specs.Labels.{labels_of, scope_after, defined_name}
-use Rattle.tal_rom.specs.Filling.{is_definition}
-use Rattle.tal_rom.proofs.AddedLemmas.{held, bytes_address, reference_address, definition_address, closing_address, on_ok, not_definition, not_reference, refer_all, put_all, close_all, define_all}
+use Rattle.tal_rom.proofs.Common.{◌≡◌, true, Ok, refl, ap, sym, ◌∙◌, arith, rules, closes, full_name, name_after_rune}
+use Rattle.tal_rom.proofs.Common.{scope_after, defined_name, is_definition, on_ok_weaker}
+use Rattle.tal_rom.proofs.AddedLemmas.{bytes_address, reference_address, definition_address, closing_address, not_definition, not_reference, refer_all, put_all, close_all, define_all}
 use Rattle.tal_rom.proofs.patcher.Patcher.take.Goals as goal
 
 pub overflow_cast-hole : goal.overflow_cast-hole
@@ -29,69 +23,40 @@ overflow_cast-word-then-closes c =
 
 pub returns-then-opens-clause-added : goal.returns-then-opens-clause-added
 returns-then-opens-clause-added c =
-    let source = c.args.source.now in
-    let placed = c.args.word.now in
-    let opening : opens c.args.text.now ≡ true = sym c.if-opens.ensures in
-    on_ok c.open.result (λ ok words few so given.
-    let full = full_name (scope_after source words) (name_after_rune (expanded_text source placed.word)) in
-    refer_all source words placed given few so.behind c.args.text.now full c.requires.read refl c.in-Refer.rune c.args.self.now.patch c.open.new.self c.in-Refer.is
-    (λ comes old. ok (labels_of source words) (held source words placed given few) c.args.text.now full opening comes old) so.holds)
+    on_ok_weaker c.open.result (λ ok words few so given.
+    refer_all _ words c.args.word.now given few so.behind c.args.text.now _ c.requires.read refl c.in-Refer.rune _ c.open.new.self c.in-Refer.is
+    (ok _ _ _ _ (sym c.if-opens.ensures)) so.holds)
     c.open.ensures.ok
 
 pub returns-in_ok-name-in-Refer-clause-added : goal.returns-in_ok-name-in-Refer-clause-added
 returns-in_ok-name-in-Refer-clause-added c =
-    let source = c.args.source.now in
-    let placed = c.args.word.now in
-    let opening : opens c.args.text.now ≡ false = sym c.if-opens.ensures in
-    on_ok c.refer.result (λ ok words few so given.
-    let named : c.in_ok-name-in-Refer.name.items ≡ full_name (scope_after source words) (name_after_rune (expanded_text source placed.word)) =
+    on_ok_weaker c.refer.result (λ ok words few so given.
+    let named =
     c.in_ok-name-in-Refer.ensures
     ∙ ap (λ s. full_name s c.name_after_rune.result.now) (c.text.ensures ∙ so.scope)
-    ∙ ap (full_name (scope_after source words)) (c.name_after_rune.ensures ∙ ap name_after_rune c.requires.read) in
-    refer_all source words placed given few so.behind c.args.text.now c.in_ok-name-in-Refer.name.items c.requires.read named c.in-Refer.rune c.args.self.now.patch c.refer.new.self c.in-Refer.is
-    (λ comes old. ok (labels_of source words) (held source words placed given few) c.args.text.now opening comes old) so.holds)
+    ∙ ap (full_name (scope_after c.args.source.now words)) (c.name_after_rune.ensures ∙ ap name_after_rune c.requires.read) in
+    refer_all _ words c.args.word.now given few so.behind c.args.text.now _ c.requires.read named c.in-Refer.rune _ c.refer.new.self c.in-Refer.is
+    (ok _ _ _ (sym c.if-opens.ensures)) so.holds)
     c.refer.ensures.ok
 
 pub returns-in_ok-name-in-LabelDef-clause-added : goal.returns-in_ok-name-in-LabelDef-clause-added
 returns-in_ok-name-in-LabelDef-clause-added c =
-    let source = c.args.source.now in
-    let placed = c.args.word.now in
     let label : is_definition c.args.word.now.form ≡ true = search rules in
-    on_ok c.define.result (λ ok words few so given.
-    let name = c.in_ok-name-in-LabelDef.name.items in
-    let named : Some name ≡ defined_name (Ok placed.form) (scope_after source words) (expanded_text source placed.word) =
+    on_ok_weaker c.define.result (λ ok words few so given.
+    let named =
     c.in_ok-name-in-LabelDef.ensures
-    ∙ ap (λ s. defined_name (Ok placed.form) s c.args.text.now) (c.text-in-LabelDef.ensures ∙ so.scope)
-    ∙ ap (defined_name (Ok placed.form) (scope_after source words)) c.requires.read in
-    define_all source words placed given few so.behind name c.args.self.now.patch c.define.new.self label named
-    (λ fresh old. ok (labels_of source words) (held source words placed given few) fresh old) so.holds)
+    ∙ ap (λ s. defined_name (Ok c.args.word.now.form) s c.args.text.now) (c.text-in-LabelDef.ensures ∙ so.scope)
+    ∙ ap (defined_name (Ok c.args.word.now.form) (scope_after c.args.source.now words)) c.requires.read in
+    define_all _ words c.args.word.now given few so.behind _ _ c.define.new.self label named (ok _ _) so.holds)
     c.define.ensures.ok
 
-pub returns-then-closes : goal.returns-then-closes
-returns-then-closes c =
-    let source = c.args.source.now in
-    let placed = c.args.word.now in
-    record {
-      scope = refl;
-      added = λ words few so given.
-          let full = full_name (scope_after source words) (name_after_rune (expanded_text source placed.word)) in
-          close_all source words placed given few so.behind c.args.text.now full c.requires.read refl c.args.self.now.patch c.put_word.new.self c.close.new.self
-          (not_definition placed.form c.in_default.not-LabelDef c.in_default.not-SubDef) (sym c.if-closes.ensures)
-          (λ comes old. c.put_word.ensures (labels_of source words) (held source words placed given few) full comes old)
-          (λ entries old. c.close.ensures (labels_of source words) entries old) so.holds;
-      err = tt;
-    }
+pub returns-then-closes-clause-added : goal.returns-then-closes-clause-added
+returns-then-closes-clause-added c words few so given =
+    close_all _ words c.args.word.now given few so.behind c.args.text.now _ c.requires.read refl _ c.put_word.new.self c.close.new.self
+    (not_definition _ c.in_default.not-LabelDef c.in_default.not-SubDef) (sym c.if-closes.ensures)
+    (c.put_word.ensures _ _ _) (c.close.ensures _) so.holds
 
-pub returns-else-closes : goal.returns-else-closes
-returns-else-closes c =
-    let source = c.args.source.now in
-    let placed = c.args.word.now in
-    record {
-      scope = refl;
-      added = λ words few so given.
-          let full = full_name (scope_after source words) (name_after_rune (expanded_text source placed.word)) in
-          put_all source words placed given few so.behind c.args.text.now full c.requires.read refl c.args.self.now.patch c.put_word.new.self
-          (not_definition placed.form c.in_default.not-LabelDef c.in_default.not-SubDef) (sym c.if-closes.ensures)
-          (λ comes old. c.put_word.ensures (labels_of source words) (held source words placed given few) full comes old) so.holds;
-      err = tt;
-    }
+pub returns-else-closes-clause-added : goal.returns-else-closes-clause-added
+returns-else-closes-clause-added c words few so given =
+    put_all _ words c.args.word.now given few so.behind c.args.text.now _ c.requires.read refl _ c.put_word.new.self
+    (not_definition _ c.in_default.not-LabelDef c.in_default.not-SubDef) (sym c.if-closes.ensures) (c.put_word.ensures _ _ _) so.holds

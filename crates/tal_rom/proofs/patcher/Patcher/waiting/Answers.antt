@@ -1,6 +1,4 @@
-use Rattle.std.proofs.Common.{length, ap, sym, ◌∙◌}
-use Rattle.std.specs.List.{filter}
-use Rattle.tal_rom.specs.Patching.{waits, waiting_count}
+use Rattle.tal_rom.proofs.Common.{length, ap, sym, ◌∙◌, filter, waits, waiting_count}
 use Rattle.tal_rom.proofs.AddedLemmas.{added_are}
 use Rattle.tal_rom.proofs.patcher.Patcher.waiting.Goals as goal
 

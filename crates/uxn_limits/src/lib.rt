@@ -1,0 +1,6 @@
+//! The numbers that code, definitions, tests and pages share: addresses, limits and ports.
+#![tactic(auto)]
+
+pub mod addresses;
+pub mod limits;
+pub mod ports;
