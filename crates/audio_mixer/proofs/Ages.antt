@@ -4,7 +4,7 @@ use Rattle.std.specs.Prelude.{Bool, true, false}
 use Rattle.std.specs.Prelude.{refl, if◌then◌else◌}
 use Rattle.std.proofs.Common.{sym, ◌∙◌, ap, arith}
 use Rattle.std.proofs.lemmas.Bool.Decides.{nat_tests}
-use Rattle.std.proofs.Math.Nat.{div-add-mod, mul-add-div, mul-add-mod_self_left, mod-add-mod, mod-eq_of_lt, zero-mul, zero-div, zero-mod}
+use Rattle.std.proofs.Math.Nat.{div-add-mod, mul-add-div, mul-add-mod_self_left, mod-add-mod, mod-eq_of_lt, one-mul, zero-mul, zero-div, zero-mod}
 use Rattle.audio_mixer.specs.declared.notes.Start.{Start}
 use Rattle.audio_mixer.specs.declared.voices.Playing.{Playing}
 use Rattle.audio_mixer.specs.Notes.{advance_of, period_of, length_of, is_repeating, steps_of, wrapped, sample_place}
@@ -12,21 +12,19 @@ use Rattle.audio_mixer.specs.Notes.{is_played, loudness, envelope_at}
 use Rattle.audio_mixer.specs.Voices.{Plays, IsAhead}
 use Rattle.audio_mixer.specs.Laws.{loudness-kept}
 
--- one more advance, from the whole steps and the rest of those before
-pub one-more : (age advance period : ℕ) → (age + 1) * advance ≡ period * (age * advance / period) + (age * advance % period + advance)
-one-more age advance period = omega (arith, div-add-mod (age * advance) period)
+-- several more advances, from the whole steps and the rests of those before and of each
+many-more : (age more advance period : ℕ) → (age + more) * advance
+    ≡ period * (age * advance / period + more * (advance / period)) + (age * advance % period + more * (advance % period))
+many-more age more advance period =
+    let each : more * (period * (advance / period) + advance % period) ≡ more * advance = ap (λ n. more * n) (div-add-mod advance period) in
+    omega (arith, each, div-add-mod (age * advance) period)
 
-pub quotient-one_more : (age advance period : ℕ) → 0 < period →
-    (age + 1) * advance / period ≡ age * advance / period + (age * advance % period + advance) / period
-quotient-one_more age advance period h = rw (one-more age advance period) (mul-add-div h _ _)
+rest-more : (age more advance period : ℕ) → (age + more) * advance % period ≡ (age * advance % period + more * (advance % period)) % period
+rest-more age more advance period = rw (many-more age more advance period) (mul-add-mod_self_left period _ _)
 
-pub rest-one_more : (age advance period : ℕ) → (age + 1) * advance % period ≡ (age * advance % period + advance) % period
-rest-one_more age advance period = rw (one-more age advance period) (mul-add-mod_self_left period _ _)
-
-pub steps-one_more : (note : Start) (age : ℕ) → 0 < period_of note →
-    steps_of note (age + 1) ≡ steps_of note age + (age * advance_of note % period_of note + advance_of note) / period_of note
-unfolding steps_of
-steps-one_more note age h = quotient-one_more age (advance_of note) (period_of note) h
+steps-more : (age more advance period : ℕ) → 0 < period → (age + more) * advance / period
+    ≡ age * advance / period + more * (advance / period) + (age * advance % period + more * (advance % period)) / period
+steps-more age more advance period h = rw (many-more age more advance period) (mul-add-div h _ _)
 
 -- going on from a wrapped place is going on and wrapping then
 abbrev cond_place : Bool → ℕ → ℕ → ℕ
@@ -55,32 +53,44 @@ pub place-none : (note : Start) → wrapped note (steps_of note 0) ≡ 0
 unfolding steps_of wrapped
 place-none note = rw (zero-mul (advance_of note), zero-div (period_of note)) (elim (is_repeating note) as (λ b. cond_place b (length_of note) 0 ≡ 0) [ true ↦ zero-mod (length_of note) | false ↦ refl ])
 
--- the place once the steps of one more advance are made
-pub place-ahead : (p : Playing) (age steps : ℕ) → Plays p p.start age → steps ≡ (p.phase + p.advance) / p.period →
-    wrapped p.start (p.place + steps) ≡ sample_place p.start age
-place-ahead p age steps plays h =
-    let from : steps ≡ (age * advance_of p.start % period_of p.start + advance_of p.start) / period_of p.start = rw (← plays.rest, ← p.advance_of_start, ← p.period_of_start) h in
-    let some : 0 < period_of p.start = rw (← p.period_of_start) p.some_period in
-    rw (plays.kept_place, wrapped-step, from, ← steps-one_more p.start age some) refl
+-- the phase and the place after so many samples more
+pub phase-passed : (p : Playing) (age more : ℕ) → Plays p p.start age
+    → (p.phase + more * p.rest) % p.period ≡ (age + more) * advance_of p.start % period_of p.start
+phase-passed p age more plays =
+    rw (plays.rest, p.rest_of_start, p.period_of_start) (sym (rest-more age more (advance_of p.start) (period_of p.start)))
 
-pub ahead-some : (p : Playing) (age steps phase place : ℕ) → Plays p p.start age →
-    steps ≡ (p.phase + p.advance) / p.period → phase ≡ (p.phase + p.advance) % p.period →
-    place ≡ wrapped p.start (p.place + steps) → place < p.len → IsAhead p.start age phase place
+pub place-passed : (p : Playing) (age more steps : ℕ) → Plays p p.start age → steps ≡ more * p.whole + (p.phase + more * p.rest) / p.period
+    → wrapped p.start (p.place + steps) ≡ wrapped p.start (steps_of p.start (age + more))
+unfolding steps_of
+place-passed p age more steps plays h =
+    let some : 0 < period_of p.start = rw (← p.period_of_start) p.some_period in
+    let from : steps_of p.start age + steps ≡ steps_of p.start (age + more) =
+    rw (h, plays.rest, p.whole_of_start, p.rest_of_start, p.period_of_start) (omega (arith, steps-more age more (advance_of p.start) (period_of p.start) some)) in
+    rw plays.kept_place (wrapped-step p.start (steps_of p.start age) steps ∙ ap (λ x. wrapped p.start x) from)
+
+-- the place once the steps of one more advance are made
+place-ahead : (p : Playing) (age carry : ℕ) → Plays p p.start age → carry ≡ (p.phase + p.rest) / p.period →
+    wrapped p.start (p.place + (p.whole + carry)) ≡ sample_place p.start age
+place-ahead p age carry plays h = place-passed p age 1 (p.whole + carry) plays (rw (h, one-mul p.whole, one-mul p.rest) refl)
+
+pub ahead-some : (p : Playing) (age carry phase place : ℕ) → Plays p p.start age →
+    carry ≡ (p.phase + p.rest) / p.period → phase ≡ (p.phase + p.rest) % p.period →
+    place ≡ wrapped p.start (p.place + (p.whole + carry)) → place < p.len → IsAhead p.start age phase place
 unfolding is_played
-ahead-some p age steps phase place plays s r w h =
-    let at : place ≡ sample_place p.start age = w ∙ place-ahead p age steps plays s in
+ahead-some p age carry phase place plays c r w h =
+    let at : place ≡ sample_place p.start age = w ∙ place-ahead p age carry plays c in
     let below : sample_place p.start age < length_of p.start = rw (← at, ← p.len_of_start) h in
     record {
-      rest = r ∙ rw (plays.rest, p.advance_of_start, p.period_of_start) (sym (rest-one_more age (advance_of p.start) (period_of p.start)));
+      rest = r ∙ ap (λ n. (p.phase + n) % p.period) (sym (one-mul p.rest)) ∙ phase-passed p age 1 plays;
       heard_at = at;
       goes_on = grind (arith, nat_tests);
     }
 
-pub ahead-none : (p : Playing) (age steps : ℕ) → Plays p p.start age →
-    steps ≡ (p.phase + p.advance) / p.period → is_repeating p.start ≡ false → p.len ≤ p.place + steps → is_played p.start age ≡ true
+pub ahead-none : (p : Playing) (age carry : ℕ) → Plays p p.start age →
+    carry ≡ (p.phase + p.rest) / p.period → is_repeating p.start ≡ false → p.len ≤ p.place + (p.whole + carry) → is_played p.start age ≡ true
 unfolding is_played
-ahead-none p age steps plays s once over =
-    let at : p.place + steps ≡ sample_place p.start age = sym (wrapped-once p.start (p.place + steps) once) ∙ place-ahead p age steps plays s in
+ahead-none p age carry plays c once over =
+    let at : p.place + (p.whole + carry) ≡ sample_place p.start age = sym (wrapped-once p.start _ once) ∙ place-ahead p age carry plays c in
     let past : length_of p.start ≤ sample_place p.start age = rw (← at, ← p.len_of_start) over in
     rw once (grind (arith, nat_tests))
 

@@ -1,170 +1,188 @@
--- A frame, pair by pair.
-use Rattle.std.specs.Prelude.{◌≡◌, ℕ, zero, suc, ◌+◌, ◌*◌, ◌<◌, Bool, true, false, not, ◌&&◌}
-use Rattle.std.specs.Prelude.{◌||◌, refl, List, [], ◌∷◌}
-use Rattle.std.specs.Prelude.{◌++◌, length, take, ℤ}
-use Rattle.std.proofs.Common.{sym, ◌∙◌, ap, subst, arith, append_assoc}
-use Rattle.std.proofs.Math.ListN.{set}
-use Rattle.std.proofs.Math.Numerals.{add-one}
-use Rattle.std.proofs.Math.Nat.{add-zero}
-use Rattle.std.proofs.lemmas.List.{length-set, take_all}
+-- A frame, voice by voice.
+use Rattle.std.specs.Prelude.{◌≡◌, ◌≢◌, ℕ, zero, suc, ◌+◌, ◌-◌, ◌*◌, ◌%◌, ◌<◌, ◌≤◌, true, refl, List, All, [], ◌∷◌, ◌++◌, length, take, replicate, ℤ, pos, slice_index_or, None}
 use Rattle.std.specs.Int.{w16, cast_signed, cast_unsigned}
-use Rattle.std.proofs.lemmas.Grind.{take-set_at}
+use Rattle.std.proofs.Common.{sym, ◌∙◌, ap, subst, arith, append_assoc, ⊎_elim}
+use Rattle.std.proofs.Math.ListN.{set}
+use Rattle.std.proofs.Math.Nat.{add-zero}
+use Rattle.std.proofs.lemmas.Bool.{cases_lt}
+use Rattle.std.proofs.lemmas.Int.{of_z-to_z}
+use Rattle.std.proofs.lemmas.Nat.{mod_below}
+use Rattle.std.proofs.lemmas.List.{length-set, take_all, take_more, get_or-set_same, get_or-set_other, get_or-replicate}
+use Rattle.std.proofs.lemmas.List.Elements.{All-set, All-get_or}
 use Rattle.audio_mixer.specs.declared.notes.Start.{Start}
-use Rattle.audio_mixer.specs.declared.mixer.Mixer.{Mixer}
-use Rattle.audio_mixer.specs.declared.voices.Pair.{Pair}
+use Rattle.audio_mixer.specs.declared.voices.Playing.{Playing}
 use Rattle.audio_mixer.specs.declared.voices.Voice.{Voice}
-use Rattle.audio_mixer.specs.Notes.{left_of, right_of}
-use Rattle.audio_mixer.specs.Sounds.{Sound, Silence, Note, later, note_is_over, ends_within, sample_in, mixed, pairs, sum_of, frame_of, endings}
-use Rattle.audio_mixer.specs.Voices.{RepresentsSounds, Sounds, GivesNext}
-use Rattle.audio_mixer.specs.Laws.{kept_sum}
-use Rattle.audio_mixer.proofs.Overs.{over-next, over-ended}
+use Rattle.audio_mixer.specs.declared.voices.Pair.{Pair}
+use Rattle.audio_mixer.specs.Notes.{left_of, right_of, note_has_ended}
+use Rattle.audio_mixer.specs.Sounds.{Sound, Silence, Note, note_is_over, sample_in, mixed, pairs, frame_of, added}
+use Rattle.audio_mixer.specs.Voices.{Plays, GivesPair, IsShort, AddsSound, SoundsAs, Sounds}
+use Rattle.audio_mixer.proofs.Overs.{over-next, over-ended, ended-later}
 
--- a frame is rendered up to a pair
-pub record Rendered (mixer : Mixer) (memory : List ℕ) (into : List ℤ) (first second third fourth : Bool) (count : ℕ) (sounds : ℕ → Sound) : Type 0 where
-  pub room : length into ≡ 1470
-  pub stands : RepresentsSounds mixer (λ voice. later count (sounds voice))
-  pub heard : take (2 * count) into ≡ pairs count memory sounds
-  pub ends_first : first ≡ ends_within count (sounds 0)
-  pub ends_second : second ≡ ends_within count (sounds 1)
-  pub ends_third : third ≡ ends_within count (sounds 2)
-  pub ends_fourth : fourth ≡ ends_within count (sounds 3)
+-- a note that has ended has ended at every later age, and is over then
+pub ended-far : (note : Start) (age more : ℕ) → note_has_ended note age ≡ true → note_has_ended note (age + more) ≡ true
+ended-far note age zero h = rw add-zero h
+ended-far note age (suc more) h =
+    subst (λ n. note_has_ended note n ≡ true) (omega arith) (ended-later note (age + more) (ended-far note age more h))
 
--- later and later again
-pub later-more : (count : ℕ) (sound : Sound) → later 1 (later count sound) ≡ later (count + 1) sound
-later-more count Silence = refl
-later-more count (Note note age) = ap (λ n. Note note n) (omega arith)
+pub over-far : (note : Start) (age more : ℕ) → 0 < more → note_has_ended note age ≡ true → note_is_over note (age + more) ≡ true
+over-far note age zero some h = absurd (omega arith)
+over-far note age (suc more) some h =
+    subst (λ n. note_is_over note n ≡ true) (omega arith) (over-next note (age + more) ∙ ended-far note age more h)
 
--- what is over stays over
-over-later : (note : Start) (age : ℕ) → note_is_over note age ≡ true → note_is_over note (age + 1) ≡ true
-over-later note age h = over-next note age ∙ over-ended note age h
+-- what holds of the note that is kept holds of the note that is played
+pub of_note : (Holds : Start → ℕ → Type 0) (p : Playing) (note : Start) (age : ℕ) →
+    ((t : ℕ) → Plays p p.start t → Holds p.start t) → Plays p note age → Holds note age
+of_note Holds p note age holds plays = subst (λ s. Plays p s age → Holds s age) plays.of_start (holds age) plays
 
-pub over-far : (note : Start) (age count : ℕ) → note_is_over note age ≡ true → note_is_over note (age + count) ≡ true
-over-far note age zero h = rw add-zero h
-over-far note age (suc count) h =
-    subst (λ n. note_is_over note n ≡ true) (omega arith) (over-later note (age + count) (over-far note age count h))
+-- a sum is a short
+added-short : (a b : ℤ) → IsShort (added a b)
+added-short a b =
+    let sum = (cast_unsigned w16 a + cast_unsigned w16 b) % 65536 in
+    let bits : cast_unsigned w16 (cast_signed w16 sum) ≡ sum = of_z-to_z w16 sum (mod_below _ 65536 (omega arith)) in
+    ap (λ n. cast_signed w16 ((n + 0) % 65536)) bits ∙ ap (λ n. cast_signed w16 n) (omega arith)
 
--- the end among one more pair
-ends_by : (before between after : Bool) → (before ≡ true → between ≡ true) → (between ≡ true → after ≡ true) →
-    ((not before && between) || (not between && after)) ≡ (not before && after)
-ends_by true true after p q = refl
-ends_by true false after p q = cc (p refl)
-ends_by false true true p q = refl
-ends_by false true false p q = cc (q refl)
-ends_by false false after p q = refl
+-- a pair put in the place of another
+abbrev with_pair : List ℤ → ℕ → ℤ → ℤ → List ℤ
+with_pair frame place left right = set (set frame (2 * place) left) (2 * place + 1) right
 
-pub ends-more : (count : ℕ) (sound : Sound) → (ends_within count sound || ends_within 1 (later count sound)) ≡ ends_within (count + 1) sound
-ends-more count Silence = refl
-ends-more count (Note note age) =
-    ends_by (note_is_over note age) (note_is_over note (age + count)) (note_is_over note (age + count + 1)) (over-far note age count) (over-later note (age + count))
-    ∙ ap (λ n. not (note_is_over note age) && note_is_over note n) (omega arith)
+at-left : (frame : List ℤ) (place : ℕ) (left right : ℤ) → 2 * place + 1 < length frame
+    → slice_index_or (with_pair frame place left right) (2 * place) (pos 0) ≡ left
+at-left frame place left right h =
+    get_or-set_other (set frame (2 * place) left) (2 * place + 1) (2 * place) right (pos 0) (λ e. omega arith)
+    ∙ get_or-set_same frame (2 * place) left (pos 0) (omega arith)
 
-pub or-ends : (was ends : Bool) (count : ℕ) (sound : Sound) → was ≡ ends_within count sound → ends ≡ ends_within 1 (later count sound) →
-    (was || ends) ≡ ends_within (count + 1) sound
-or-ends was ends count sound w e = rw (w, e) (ends-more count sound)
+at-right : (frame : List ℤ) (place : ℕ) (left right : ℤ) → 2 * place + 1 < length frame
+    → slice_index_or (with_pair frame place left right) (2 * place + 1) (pos 0) ≡ right
+at-right frame place left right h =
+    get_or-set_same (set frame (2 * place) left) (2 * place + 1) right (pos 0) (rw (length-set frame (2 * place) left) h)
 
--- the samples that come next
-pub sample-ahead : (memory : List ℕ) (volume : Start → ℕ) (count : ℕ) (sound : Sound) →
-    sample_in memory volume (later count sound) 0 ≡ sample_in memory volume sound count
-sample-ahead memory volume count Silence = refl
-sample-ahead memory volume count (Note note age) = rw add-zero refl
+at-other : (frame : List ℤ) (place k : ℕ) (left right : ℤ) → k ≢ 2 * place → k ≢ 2 * place + 1
+    → slice_index_or (with_pair frame place left right) k (pos 0) ≡ slice_index_or frame k (pos 0)
+at-other frame place k left right l r =
+    get_or-set_other (set frame (2 * place) left) (2 * place + 1) k right (pos 0) r
+    ∙ get_or-set_other frame (2 * place) k left (pos 0) l
 
--- two more samples behind a prefix
-pub prefix-more : (into : List ℤ) (count : ℕ) (x y : ℤ) → 2 * count + 1 < length into →
-    take (2 * (count + 1)) (set (set into (2 * count) x) (2 * count + 1) y) ≡ take (2 * count) into ++ x ∷ y ∷ []
-prefix-more into count x y h =
-    take-set_at (set into (2 * count) x) (2 * count + 1) (2 * (count + 1)) y (omega arith) (omega (arith, length-set into (2 * count) x))
-    ∙ ap (λ prefix. prefix ++ y ∷ []) (take-set_at into (2 * count) (2 * count + 1) x (omega arith) (omega arith))
-    ∙ append_assoc (take (2 * count) into) (x ∷ []) (y ∷ [])
-
-pub pairs-more : (count : ℕ) (memory : List ℕ) (sounds : ℕ → Sound) →
-    pairs (count + 1) memory sounds ≡ pairs count memory sounds ++ mixed memory left_of sounds count ∷ mixed memory right_of sounds count ∷ []
-unfolding pairs
-pairs-more count memory sounds = rw add-one refl
-
--- what one voice gives and is next
-pub record NextOf (memory : List ℕ) (after : Voice) (pair : Pair) (ends : Bool) (sound : Sound) : Type 0 where
-  pub gives : GivesNext memory sound pair
-  pub ends_now : ends ≡ ends_within 1 sound
-  pub sounds : Sounds after (later 1 sound)
-
--- nothing is rendered yet
-later-none : (sound : Sound) → later 0 sound ≡ sound
-later-none Silence = refl
-later-none (Note note age) = ap (λ n. Note note n) (add-zero age)
-
-ends-none : (sound : Sound) → false ≡ ends_within 0 sound
-ends-none Silence = refl
-ends-none (Note note age) = rw add-zero (elim (note_is_over note age) as (λ b. false ≡ (not b && b)) [ true ↦ refl | false ↦ refl ])
-
-pub rendered-none : (mixer : Mixer) (memory : List ℕ) (into : List ℤ) (sounds : ℕ → Sound) → length into ≡ 1470 → RepresentsSounds mixer sounds →
-    Rendered mixer memory into false false false false 0 sounds
-unfolding pairs
-rendered-none mixer memory into sounds room stands = record {
-  room = room;
-  stands = record {
-    first = subst (λ s. Sounds mixer.first s) (sym (later-none (sounds 0))) stands.first;
-    second = subst (λ s. Sounds mixer.second s) (sym (later-none (sounds 1))) stands.second;
-    third = subst (λ s. Sounds mixer.third s) (sym (later-none (sounds 2))) stands.third;
-    fourth = subst (λ s. Sounds mixer.fourth s) (sym (later-none (sounds 3))) stands.fourth;
-  };
-  heard = refl;
-  ends_first = ends-none (sounds 0);
-  ends_second = ends-none (sounds 1);
-  ends_third = ends-none (sounds 2);
-  ends_fourth = ends-none (sounds 3);
-}
-
--- the samples of a side, from the four pairs
-mixed-now : (memory : List ℕ) (volume : Start → ℕ) (sounds : ℕ → Sound) (count : ℕ) (a b c d : ℤ) →
-    a ≡ sample_in memory volume (later count (sounds 0)) 0 → b ≡ sample_in memory volume (later count (sounds 1)) 0 →
-    c ≡ sample_in memory volume (later count (sounds 2)) 0 → d ≡ sample_in memory volume (later count (sounds 3)) 0 →
-    sum_of a b c d ≡ mixed memory volume sounds count
-mixed-now memory volume sounds count a b c d p q r s =
-    let first = p ∙ sample-ahead memory volume count (sounds 0) in
-    let second = q ∙ sample-ahead memory volume count (sounds 1) in
-    let third = r ∙ sample-ahead memory volume count (sounds 2) in
-    let fourth = s ∙ sample-ahead memory volume count (sounds 3) in
-    rw (first, second, third, fourth) refl
-
-pub rendered-more : (mixer : Mixer) (memory : List ℕ) (into : List ℤ) (first second third fourth : Bool) (count : ℕ) (sounds : ℕ → Sound)
-    (va vb vc vd : Voice) (a b c d : Pair) (ea eb ec ed : Bool) (left right : ℤ) →
-    Rendered mixer memory into first second third fourth count sounds →
-    NextOf memory va a ea (later count (sounds 0)) → NextOf memory vb b eb (later count (sounds 1)) →
-    NextOf memory vc c ec (later count (sounds 2)) → NextOf memory vd d ed (later count (sounds 3)) →
-    left ≡ sum_of a.left b.left c.left d.left → right ≡ sum_of a.right b.right c.right d.right →
-    count < 735 →
-    Rendered (record { first = va; second = vb; third = vc; fourth = vd }) memory
-    (set (set into (2 * count) (cast_signed w16 (cast_unsigned w16 left))) (2 * count + 1) (cast_signed w16 (cast_unsigned w16 right)))
-    (first || ea) (second || eb) (third || ec) (fourth || ed) (count + 1) sounds
-rendered-more mixer memory into first second third fourth count sounds va vb vc vd a b c d ea eb ec ed left right done na nb nc nd l r below =
-    let room : 2 * count + 1 < length into = omega (arith, done.room) in
-    let heard_left : cast_signed w16 (cast_unsigned w16 left) ≡ mixed memory left_of sounds count =
-    rw l (kept_sum a.left b.left c.left d.left ∙ mixed-now memory left_of sounds count a.left b.left c.left d.left na.gives.left nb.gives.left nc.gives.left nd.gives.left) in
-    let heard_right : cast_signed w16 (cast_unsigned w16 right) ≡ mixed memory right_of sounds count =
-    rw r (kept_sum a.right b.right c.right d.right ∙ mixed-now memory right_of sounds count a.right b.right c.right d.right na.gives.right nb.gives.right nc.gives.right nd.gives.right) in
+-- one more pair is added
+adds-more : (memory : List ℕ) (sound : Sound) (count : ℕ) (before after : List ℤ) (x y : ℤ) → 2 * count + 1 < length after
+    → AddsSound memory sound count before after → x ≡ sample_in memory left_of sound count → y ≡ sample_in memory right_of sound count
+    → let left = added (slice_index_or after (2 * count) (pos 0)) x in
+    let right = added (slice_index_or (set after (2 * count) left) (2 * count + 1) (pos 0)) y in
+    AddsSound memory sound (count + 1) before (with_pair after count left right)
+adds-more memory sound count before after x y room adds p q =
+    let left = added (slice_index_or after (2 * count) (pos 0)) x in
+    let right = added (slice_index_or (set after (2 * count) left) (2 * count + 1) (pos 0)) y in
+    let here_left : left ≡ added (slice_index_or before (2 * count) (pos 0)) (sample_in memory left_of sound count) =
+    rw (p, adds.others (2 * count) (omega arith)) refl in
+    let here_right : right ≡ added (slice_index_or before (2 * count + 1) (pos 0)) (sample_in memory right_of sound count) =
+    rw (q, get_or-set_other after (2 * count) (2 * count + 1) left (pos 0) (λ e. omega arith), adds.others (2 * count + 1) (omega arith)) refl in
     record {
-      room = length-set (set into (2 * count) _) (2 * count + 1) _ ∙ length-set into (2 * count) _ ∙ done.room;
-      stands = record {
-        first = subst (λ s. Sounds va s) (later-more count (sounds 0)) na.sounds;
-        second = subst (λ s. Sounds vb s) (later-more count (sounds 1)) nb.sounds;
-        third = subst (λ s. Sounds vc s) (later-more count (sounds 2)) nc.sounds;
-        fourth = subst (λ s. Sounds vd s) (later-more count (sounds 3)) nd.sounds;
-      };
-      heard = prefix-more into count _ _ room
-          ∙ rw (done.heard, heard_left, heard_right) (sym (pairs-more count memory sounds));
-      ends_first = or-ends first ea count (sounds 0) done.ends_first na.ends_now;
-      ends_second = or-ends second eb count (sounds 1) done.ends_second nb.ends_now;
-      ends_third = or-ends third ec count (sounds 2) done.ends_third nc.ends_now;
-      ends_fourth = or-ends fourth ed count (sounds 3) done.ends_fourth nd.ends_now;
+      left = λ k h. ⊎_elim
+          (λ below. at-other after count (2 * k) left right (λ e. omega arith) (λ e. omega arith) ∙ adds.left k below)
+          (λ over. let same : count ≡ k = omega arith in
+          subst (λ n. slice_index_or (with_pair after count left right) (2 * n) (pos 0) ≡ added (slice_index_or before (2 * n) (pos 0)) (sample_in memory left_of sound n))
+          same (at-left after count left right room ∙ here_left))
+          (cases_lt k count);
+      right = λ k h. ⊎_elim
+          (λ below. at-other after count (2 * k + 1) left right (λ e. omega arith) (λ e. omega arith) ∙ adds.right k below)
+          (λ over. let same : count ≡ k = omega arith in
+          subst (λ n. slice_index_or (with_pair after count left right) (2 * n + 1) (pos 0) ≡ added (slice_index_or before (2 * n + 1) (pos 0)) (sample_in memory right_of sound n))
+          same (at-right after count left right room ∙ here_right))
+          (cases_lt k count);
+      others = λ k h. at-other after count k left right (λ e. omega arith) (λ e. omega arith) ∙ adds.others k (omega arith);
+      shorts = All-set IsShort (set after (2 * count) left) (2 * count + 1) right (added-short (slice_index_or (set after (2 * count) left) (2 * count + 1) (pos 0)) y)
+          (All-set IsShort after (2 * count) left (added-short (slice_index_or after (2 * count) (pos 0)) x) adds.shorts);
     }
 
--- a whole frame is rendered
-pub rendered-whole : (mixer : Mixer) (memory : List ℕ) (into : List ℤ) (first second third fourth : Bool) (sounds : ℕ → Sound) →
-    Rendered mixer memory into first second third fourth 735 sounds → into ≡ frame_of memory sounds
-rendered-whole mixer memory into first second third fourth sounds done =
-    sym (take_all 1470 into (omega (arith, done.room))) ∙ done.heard
+-- so many pairs of a frame are added, and the note goes on
+pub record IsAdded (memory : List ℕ) (note : Start) (age count : ℕ) (playing : Playing) (before after : List ℤ) : Type 0 where
+  pub plays : Plays playing note (age + count)
+  pub adds : All IsShort before → AddsSound memory (Note note age) count before after
+  pub size : length after ≡ 1470
 
-pub rendered-endings : (mixer : Mixer) (memory : List ℕ) (into : List ℤ) (first second third fourth : Bool) (sounds : ℕ → Sound) →
-    Rendered mixer memory into first second third fourth 735 sounds → (first ∷ second ∷ third ∷ fourth ∷ []) ≡ endings 735 sounds
-rendered-endings mixer memory into first second third fourth sounds done =
-    rw (done.ends_first, done.ends_second, done.ends_third, done.ends_fourth) refl
+pub added-more : (memory : List ℕ) (note : Start) (age count : ℕ) (was now : Playing) (before after : List ℤ) (pair : Pair) → count < 735
+    → IsAdded memory note age count was before after → GivesPair memory note (age + count) pair × Plays now note (age + count + 1)
+    → let left = added (slice_index_or after (2 * count) (pos 0)) pair.left in
+    let right = added (slice_index_or (set after (2 * count) left) (2 * count + 1) (pos 0)) pair.right in
+    IsAdded memory note age (count + 1) now before (with_pair after count left right)
+added-more memory note age count was now before after pair below done next = record {
+  plays = subst (λ n. Plays now note n) (omega arith) next.1;
+  adds = λ shorts. adds-more memory (Note note age) count before after pair.left pair.right (omega (arith, done.size)) (done.adds shorts) next.0.left next.0.right;
+  size = length-set _ _ _ ∙ length-set _ _ _ ∙ done.size;
+}
+
+-- no pair is added yet
+pub adds-none : (memory : List ℕ) (sound : Sound) (frame : List ℤ) → All IsShort frame → AddsSound memory sound 0 frame frame
+adds-none memory sound frame shorts = record {
+  left = λ k h. absurd (omega arith);
+  right = λ k h. absurd (omega arith);
+  others = λ k h. refl;
+  shorts = shorts;
+}
+
+-- the pairs that are left are those of a sound that is silent from there on
+pub adds-silence : (memory : List ℕ) (sound : Sound) (count : ℕ) (before after : List ℤ) → length before ≡ 1470 → count ≤ 735
+    → All IsShort before → AddsSound memory sound count before after
+    → ((volume : Start → ℕ) (k : ℕ) → count ≤ k → sample_in memory volume sound k ≡ pos 0) → AddsSound memory sound 735 before after
+adds-silence memory sound count before after size few shorts adds silent = record {
+  left = λ k h. ⊎_elim (λ below. adds.left k below)
+      (λ over. adds.others (2 * k) (omega arith) ∙ rw (silent left_of k over) (sym (All-get_or IsShort before (2 * k) (pos 0) (omega (arith, size)) shorts)))
+      (cases_lt k count);
+  right = λ k h. ⊎_elim (λ below. adds.right k below)
+      (λ over. adds.others (2 * k + 1) (omega arith) ∙ rw (silent right_of k over) (sym (All-get_or IsShort before (2 * k + 1) (pos 0) (omega (arith, size)) shorts)))
+      (cases_lt k count);
+  others = λ k h. adds.others k (omega arith);
+  shorts = adds.shorts;
+}
+
+-- a note that has ended is silent, and so is a voice that is stopped
+pub ended-silent : (memory : List ℕ) (note : Start) (age count : ℕ) → note_has_ended note (age + count) ≡ true
+    → (volume : Start → ℕ) (k : ℕ) → count ≤ k → sample_in memory volume (Note note age) k ≡ pos 0
+ended-silent memory note age count ended volume k h =
+    let ends : note_has_ended note (age + k) ≡ true =
+    subst (λ n. note_has_ended note n ≡ true) (omega arith) (ended-far note (age + count) (k - count) ended) in
+    rw ends refl
+
+stopped-silent : (memory : List ℕ) (voice : Voice) (sound : Sound) → voice.playing ≡ None → Sounds voice sound
+    → (volume : Start → ℕ) (k : ℕ) → 0 ≤ k → sample_in memory volume sound k ≡ pos 0
+stopped-silent memory voice Silence none sounds volume k h = refl
+stopped-silent memory voice (Note note age) none sounds volume k h =
+    let over : note_is_over note age ≡ true = subst (λ p. SoundsAs p (Note note age)) none sounds in
+    ended-silent memory note age 0 (rw add-zero (over-ended note age over)) volume k h
+
+pub stopped-adds : (memory : List ℕ) (voice : Voice) (sound : Sound) (frame : List ℤ) → length frame ≡ 1470
+    → voice.playing ≡ None → Sounds voice sound → All IsShort frame → AddsSound memory sound 735 frame frame
+stopped-adds memory voice sound frame size none sounds shorts =
+    adds-silence memory sound 0 frame frame size (omega arith) shorts (adds-none memory sound frame shorts) (stopped-silent memory voice sound none sounds)
+
+-- a frame is a pair after the other
+prefix-more : (frame : List ℤ) (count : ℕ) → 2 * count + 1 < length frame → take (2 * suc count) frame
+    ≡ take (2 * count) frame ++ slice_index_or frame (2 * count) (pos 0) ∷ slice_index_or frame (2 * count + 1) (pos 0) ∷ []
+prefix-more frame count h =
+    let more : 2 * suc count ≡ 2 * count + 1 + 1 = omega arith in
+    ap (λ n. take n frame) more
+    ∙ take_more frame (2 * count + 1) (pos 0) h
+    ∙ ap (λ prefix. prefix ++ slice_index_or frame (2 * count + 1) (pos 0) ∷ []) (take_more frame (2 * count) (pos 0) (omega arith))
+    ∙ append_assoc (take (2 * count) frame) (slice_index_or frame (2 * count) (pos 0) ∷ []) (slice_index_or frame (2 * count + 1) (pos 0) ∷ [])
+
+-- each pair of a frame is mixed
+record IsMixed (memory : List ℕ) (sounds : ℕ → Sound) (frame : List ℤ) (k : ℕ) : Type 0 where
+  pub left : slice_index_or frame (2 * k) (pos 0) ≡ mixed memory left_of sounds k
+  pub right : slice_index_or frame (2 * k + 1) (pos 0) ≡ mixed memory right_of sounds k
+
+pairs-of : (memory : List ℕ) (sounds : ℕ → Sound) (frame : List ℤ) (count : ℕ) → length frame ≡ 1470 → count ≤ 735
+    → ((k : ℕ) → k < 735 → IsMixed memory sounds frame k) → take (2 * count) frame ≡ pairs count memory sounds
+unfolding pairs
+pairs-of memory sounds frame zero size h mixes = refl
+pairs-of memory sounds frame (suc count) size h mixes =
+    let here = mixes count (omega arith) in
+    prefix-more frame count (omega (arith, size)) ∙ rw (pairs-of memory sounds frame count size (omega arith) mixes, here.left, here.right) refl
+
+pub frame-of_sounds : (memory : List ℕ) (sounds : ℕ → Sound) (none a b c d : List ℤ) → length d ≡ 1470 → none ≡ replicate 1470 (pos 0)
+    → AddsSound memory (sounds 0) 735 none a → AddsSound memory (sounds 1) 735 a b
+    → AddsSound memory (sounds 2) 735 b c → AddsSound memory (sounds 3) 735 c d → d ≡ frame_of memory sounds
+frame-of_sounds memory sounds none a b c d size zeros first second third fourth =
+    let nothing : (k : ℕ) → k < 1470 → slice_index_or none k (pos 0) ≡ pos 0 = λ k h. rw zeros (get_or-replicate 1470 k (pos 0) (pos 0) h) in
+    sym (take_all 1470 d (omega (arith, size))) ∙ pairs-of memory sounds d 735 size (omega arith) (λ k h. record {
+      left = rw (fourth.left k h, third.left k h, second.left k h, first.left k h, nothing (2 * k) (omega arith)) refl;
+      right = rw (fourth.right k h, third.right k h, second.right k h, first.right k h, nothing (2 * k + 1) (omega arith)) refl;
+    })

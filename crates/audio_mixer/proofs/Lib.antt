@@ -1,4 +1,3 @@
-pub mod Divisions
 pub mod Ages
 pub mod Overs
 pub mod Frames

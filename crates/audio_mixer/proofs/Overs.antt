@@ -1,20 +1,18 @@
 -- Notes that are over, and what voices give.
 use Rattle.std.specs.Prelude.{◌≡◌, ℕ, zero, suc, ◌+◌, ◌*◌, ◌/◌, ◌≤◌, true, false}
-use Rattle.std.specs.Prelude.{refl, List, pos}
-use Rattle.std.specs.Prelude.{Some, None, slice_index}
-use Rattle.std.proofs.Common.{sym, ◌∙◌, ap, subst, arith}
+use Rattle.std.specs.Prelude.{refl, List}
+use Rattle.std.specs.Prelude.{slice_index}
+use Rattle.std.proofs.Common.{◌∙◌, ap, subst, arith}
 use Rattle.std.proofs.lemmas.Bool.Decides.{nat_tests}
 use Rattle.std.proofs.Math.Numerals.{add-one}
-use Rattle.std.proofs.Math.Nat.{add-zero, mul-le-mul_right, div-zero, div-mul-le_self}
+use Rattle.std.proofs.Math.Nat.{mul-le-mul_right, div-zero, div-mul-le_self}
 use Rattle.std.proofs.lemmas.Nat.{le-div}
 use Rattle.audio_mixer.specs.declared.notes.Start.{Start}
-use Rattle.audio_mixer.specs.declared.voices.Playing.{Playing}
-use Rattle.audio_mixer.specs.declared.voices.Voice.{Voice}
 use Rattle.audio_mixer.specs.declared.voices.Pair.{Pair}
 use Rattle.audio_mixer.specs.Notes.{advance_of, period_of, steps_of, wrapped, sample_place}
 use Rattle.audio_mixer.specs.Notes.{is_played, is_released, note_has_ended, envelope_at, heard, left_of, right_of}
-use Rattle.audio_mixer.specs.Sounds.{Sound, Silence, Note, note_is_over, later}
-use Rattle.audio_mixer.specs.Voices.{Plays, IsAhead, GivesPair, GivesNext, SoundsAs, Sounds}
+use Rattle.audio_mixer.specs.Sounds.{note_is_over}
+use Rattle.audio_mixer.specs.Voices.{IsAhead, GivesPair}
 
 -- a note that has ended has ended at every later age
 quotient-grow : (a b p : ℕ) → a ≤ b → a / p ≤ b / p
@@ -44,35 +42,6 @@ over-next note age = rw add-one refl
 pub over-ended : (note : Start) (age : ℕ) → note_is_over note age ≡ true → note_has_ended note age ≡ true
 over-ended note zero h = cc
 over-ended note (suc age) h = subst (λ n. note_has_ended note n ≡ true) (add-one age) (ended-later note age h)
-
--- what a voice gives that is stopped
-pub stopped-gives : (memory : List ℕ) (voice : Voice) (sound : Sound) → voice.playing ≡ None → Sounds voice sound →
-    GivesNext memory sound (record { left = pos 0; right = pos 0 })
-stopped-gives memory voice Silence none sounds = record { left = refl; right = refl }
-stopped-gives memory voice (Note note age) none sounds =
-    let over : note_is_over note age ≡ true = subst (λ p. SoundsAs p (Note note age)) none sounds in
-    let ended : note_has_ended note (age + 0) ≡ true = rw add-zero (over-ended note age over) in
-    record { left = rw ended refl; right = rw ended refl }
-
-pub stopped-sounds : (voice : Voice) (sound : Sound) → voice.playing ≡ None → Sounds voice sound → Sounds voice (later 1 sound)
-stopped-sounds voice Silence none sounds = sounds
-stopped-sounds voice (Note note age) none sounds =
-    let over : note_is_over note age ≡ true = subst (λ p. SoundsAs p (Note note age)) none sounds in
-    subst (λ p. SoundsAs p (Note note (age + 1))) (sym none) (over-next note age ∙ over-ended note age over)
-
--- what a voice gives that plays
-pub gives-next : (memory : List ℕ) (p : Playing) (pair : Pair) (note : Start) (age : ℕ) →
-    ((t : ℕ) → Plays p p.start t → GivesPair memory p.start t pair) → Plays p note age → GivesNext memory (Note note age) pair
-gives-next memory p pair note age gives plays =
-    let now : GivesPair memory note age pair =
-    subst (λ s. Plays p s age → GivesPair memory s age pair) plays.of_start (gives age) plays in
-    record { left = rw add-zero now.left; right = rw add-zero now.right }
-
-pub playing-gives : (memory : List ℕ) (voice : Voice) (p : Playing) (pair : Pair) (sound : Sound) → voice.playing ≡ Some p →
-    ((t : ℕ) → Plays p p.start t → GivesPair memory p.start t pair) → Sounds voice sound → GivesNext memory sound pair
-playing-gives memory voice p pair Silence some gives sounds = absurd (subst (λ q. SoundsAs q Silence) some sounds)
-playing-gives memory voice p pair (Note note age) some gives sounds =
-    gives-next memory p pair note age gives (subst (λ q. SoundsAs q (Note note age)) some sounds)
 
 -- the pair at an age at which the note has not ended
 pub not-ended : (note : Start) (age phase place : ℕ) → is_released note age ≡ false → IsAhead note age phase place → note_has_ended note age ≡ false

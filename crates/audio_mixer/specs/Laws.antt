@@ -10,7 +10,7 @@ use Rattle.std.proofs.lemmas.List.{map-append}
 use Rattle.audio_mixer.specs.declared.notes.Start.{Start}
 use Rattle.audio_mixer.specs.Notes.{loudness}
 use Rattle.audio_mixer.specs.Notes.{left_of, right_of}
-use Rattle.audio_mixer.specs.Sounds.{Sound, sample_in, sum_of, mixed, pairs, frame_of}
+use Rattle.audio_mixer.specs.Sounds.{Sound, mixed, pairs, frame_of}
 
 -- an envelope that is over stays so
 pub loudness-kept : (attack decay sustain release age : ℕ) → attack ≤ decay → decay ≤ sustain → sustain ≤ release
@@ -22,14 +22,9 @@ loudness-kept attack decay sustain release age d s r = grind (arith, nat_tests)
 abbrev pub sample_short : ℤ → ℤ
 sample_short sample = cast_signed w16 (cast_unsigned w16 sample)
 
-pub kept_sum : (a b c d : ℤ) → sample_short (sum_of a b c d) ≡ sum_of a b c d
-kept_sum a b c d = ap (λ n. cast_signed w16 n) (of_z-to_z w16 _ (mod_below _ 65536 (omega arith)))
-
 kept_mixed : (memory : List ℕ) (volume : Start → ℕ) (sounds : ℕ → Sound) (ahead : ℕ)
     → sample_short (mixed memory volume sounds ahead) ≡ mixed memory volume sounds ahead
-kept_mixed memory volume sounds ahead = kept_sum
-    (sample_in memory volume (sounds 0) ahead) (sample_in memory volume (sounds 1) ahead)
-    (sample_in memory volume (sounds 2) ahead) (sample_in memory volume (sounds 3) ahead)
+kept_mixed memory volume sounds ahead = ap (λ n. cast_signed w16 n) (of_z-to_z w16 _ (mod_below _ 65536 (omega arith)))
 
 kept_pairs : (count : ℕ) (memory : List ℕ) (sounds : ℕ → Sound) → map sample_short (pairs count memory sounds) ≡ pairs count memory sounds
 unfolding pairs

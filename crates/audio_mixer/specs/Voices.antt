@@ -1,12 +1,12 @@
 -- What the voices that are kept represent.
-use Rattle.std.specs.Prelude.{◌≡◌, ℕ, ◌+◌, ◌*◌, ◌%◌, ◌&&◌, min, Bool, true, false, List, Option, Some, None}
+use Rattle.std.specs.Prelude.{◌≡◌, ℕ, ◌+◌, ◌*◌, ◌%◌, ◌<◌, ◌≤◌, ◌&&◌, min, Bool, true, false, List, All, slice_index_or, ℤ, pos, Option, Some, None}
 use Rattle.audio_mixer.specs.declared.notes.Start.{Start}
 use Rattle.audio_mixer.specs.declared.voices.Playing.{Playing}
 use Rattle.audio_mixer.specs.declared.voices.Voice.{Voice}
 use Rattle.audio_mixer.specs.declared.voices.Pair.{Pair}
 use Rattle.audio_mixer.specs.declared.mixer.Mixer.{Mixer}
 use Rattle.audio_mixer.specs.Notes.{advance_of, period_of, release_of, steps_of, wrapped, left_of, right_of, sample_at, sample_place, is_played}
-use Rattle.audio_mixer.specs.Sounds.{Sound, Silence, Note, note_is_over, is_endless, sample_in}
+use Rattle.audio_mixer.specs.Sounds.{Sound, Silence, Note, note_is_over, is_endless, sample_in, added}
 
 -- a note that goes on is kept as its start, and the age, the phase and the place that it has come to
 pub record Plays (playing : Playing) (note : Start) (age : ℕ) : Type 0 where
@@ -27,10 +27,16 @@ pub record GivesPair (memory : List ℕ) (note : Start) (age : ℕ) (pair : Pair
   pub left : pair.left ≡ sample_at memory note (left_of note) age
   pub right : pair.right ≡ sample_at memory note (right_of note) age
 
--- a pair has the samples that come next
-pub record GivesNext (memory : List ℕ) (sound : Sound) (pair : Pair) : Type 0 where
-  pub left : pair.left ≡ sample_in memory left_of sound 0
-  pub right : pair.right ≡ sample_in memory right_of sound 0
+-- a sample that stays as it is when 0 is added
+abbrev pub IsShort : ℤ → Type 0
+IsShort sample = added sample (pos 0) ≡ sample
+
+-- the first so many pairs of a frame have the samples of a sound added, and the others are as before
+pub record AddsSound (memory : List ℕ) (sound : Sound) (count : ℕ) (before after : List ℤ) : Type 0 where
+  pub left : (k : ℕ) → k < count → slice_index_or after (2 * k) (pos 0) ≡ added (slice_index_or before (2 * k) (pos 0)) (sample_in memory left_of sound k)
+  pub right : (k : ℕ) → k < count → slice_index_or after (2 * k + 1) (pos 0) ≡ added (slice_index_or before (2 * k + 1) (pos 0)) (sample_in memory right_of sound k)
+  pub others : (k : ℕ) → 2 * count ≤ k → slice_index_or after k (pos 0) ≡ slice_index_or before k (pos 0)
+  pub shorts : All IsShort after
 
 -- a voice that is stopped sounds nothing, and every note that is over
 abbrev pub SoundsAs : Option Playing → Sound → Type 0

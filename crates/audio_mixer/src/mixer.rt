@@ -1,26 +1,7 @@
 //! The four voices together.
-ghost use Rattle.std.specs.Prelude.{◌≡◌};
-ghost use Rattle.audio_mixer.specs.Sounds.{sum_of};
-
 use super::notes::Start;
-use super::voices::{Pair, Voice};
+use super::voices::Voice;
 use uxn_memory::Memory;
-
-/// How many pairs of samples a frame has.
-const PAIRS: usize = 735;
-
-/// The sums of what four voices give, modulo 65,536.
-fn mixed(a: &Pair, b: &Pair, c: &Pair, d: &Pair) -> Pair
-    ensures left { result.left ≡ sum_of a.now.left b.now.left c.now.left d.now.left }
-    ensures right { result.right ≡ sum_of a.now.right b.now.right c.now.right d.now.right }
-{
-    let left = 0i16.wrapping_add(a.left).wrapping_add(b.left);
-    let right = 0i16.wrapping_add(a.right).wrapping_add(b.right);
-    Pair {
-        left: left.wrapping_add(c.left).wrapping_add(d.left),
-        right: right.wrapping_add(c.right).wrapping_add(d.right),
-    }
-}
 
 /// The four voices of the audio device.
 #[derive(Drop)]
@@ -32,7 +13,7 @@ pub struct Mixer {
 }
 
 impl Mixer {
-    ghost use Rattle.std.specs.Prelude.{◌≡◌, ◌≢◌, ℕ, ◌<◌, true, false, not, ◌&&◌, is_none, [], ◌∷◌};
+    ghost use Rattle.std.specs.Prelude.{◌≡◌, ◌≢◌, ℕ, ◌<◌, true, false, not, ◌&&◌, [], ◌∷◌};
     ghost use Rattle.audio_mixer.specs.Sounds.{Sound, Silence, begun, later, can_end, started_on, position_of, output_of, endings, frame_of};
     ghost use Rattle.audio_mixer.specs.Voices.{Sounds, RepresentsSounds, all_play_on};
 
@@ -68,25 +49,13 @@ impl Mixer {
         ensures ends { (sounds : ℕ → Sound) → RepresentsSounds self.old sounds → result ≡ endings 735 sounds }
         ensures sounds { (sounds : ℕ → Sound) → RepresentsSounds self.old sounds → RepresentsSounds self.new (λ voice. later 735 (sounds voice)) }
     {
-        if self.is_stopped() {
-            into.fill(0);
-            return [false; 4];
-        }
-        let (mut first, mut second, mut third, mut fourth) = (false, false, false, false);
-        for place in 0..PAIRS {
-            let (a, a_ends) = self.first.next(memory);
-            let (b, b_ends) = self.second.next(memory);
-            let (c, c_ends) = self.third.next(memory);
-            let (d, d_ends) = self.fourth.next(memory);
-            let heard = mixed(&a, &b, &c, &d);
-            into[2 * place] = heard.left;
-            into[2 * place + 1] = heard.right;
-            first |= a_ends;
-            second |= b_ends;
-            third |= c_ends;
-            fourth |= d_ends;
-        }
-        [first, second, third, fourth]
+        into.fill(0);
+        [
+            self.first.add_frame(memory, into),
+            self.second.add_frame(memory, into),
+            self.third.add_frame(memory, into),
+            self.fourth.add_frame(memory, into),
+        ]
     }
 
     /// Whether no voice plays a note that will end.
@@ -111,17 +80,6 @@ impl Mixer {
         self.second.pass();
         self.third.pass();
         self.fourth.pass();
-    }
-
-    // Whether no voice plays.
-    fn is_stopped(&self) -> bool
-        ensures { result ≡ (is_none self.now.first.playing && is_none self.now.second.playing
-            && is_none self.now.third.playing && is_none self.now.fourth.playing) }
-    {
-        self.first.is_stopped()
-            && self.second.is_stopped()
-            && self.third.is_stopped()
-            && self.fourth.is_stopped()
     }
 
     /// A voice by its number.

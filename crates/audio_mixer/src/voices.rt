@@ -1,5 +1,5 @@
 //! One voice: the note that it plays, and how far it has come.
-ghost use Rattle.std.specs.Prelude.{◌≡◌, ℕ, ◌+◌, ◌<◌, ◌≤◌, ◌/◌, ◌%◌, false};
+ghost use Rattle.std.specs.Prelude.{◌≡◌, ℕ, ◌+◌, ◌*◌, ◌<◌, ◌≤◌, ◌/◌, ◌%◌, false};
 ghost use Rattle.audio_mixer.specs.Notes.{
   heard,
   level,
@@ -16,13 +16,18 @@ ghost use Rattle.audio_mixer.specs.Notes.{
 use super::notes::{Envelope, Start};
 use uxn_memory::Memory;
 
+/// How many pairs of samples a frame has.
+const PAIRS: usize = 735;
+
 /// A note that goes on: what its start determines, and where it stands after the samples so far.
 #[derive(Clone, Copy)]
 pub(crate) struct Playing {
     start: Start,
     len: u32,
-    advance: u32,
     period: u32,
+    /// The whole bytes that one sample goes on, and what is left of its advance.
+    whole: u32,
+    rest: u32,
     envelope: Envelope,
     /// The samples so far, but no more than the envelope lasts.
     age: u32,
@@ -32,14 +37,17 @@ pub(crate) struct Playing {
     place: u32,
     ghost sounding: { is_silent start ≡ false },
     ghost len_of_start: { len ≡ length_of start },
-    ghost advance_of_start: { advance ≡ advance_of start },
     ghost period_of_start: { period ≡ period_of start },
+    ghost whole_of_start: { whole ≡ advance_of start / period_of start },
+    ghost rest_of_start: { rest ≡ advance_of start % period_of start },
     ghost attack_of_start: { envelope.attack ≡ attack_of start },
     ghost decay_of_start: { envelope.decay ≡ decay_of start },
     ghost sustain_of_start: { envelope.sustain ≡ sustain_of start },
     ghost release_of_start: { envelope.release ≡ release_of start },
     ghost in_memory: { len + start.addr ≤ 65536 },
-    ghost slow: { advance ≤ 990748 },
+    ghost few_bytes: { whole ≤ 990748 },
+    ghost small_rest: { rest ≤ 990748 },
+    ghost rest_in_period: { rest < period },
     ghost some_period: { 0 < period },
     ghost short_period: { period ≤ 11042816 },
     ghost in_envelope: { age ≤ envelope.release },
@@ -60,19 +68,18 @@ pub(crate) struct Pair {
     pub right: i16,
 }
 
-/// The quotient and the rest, by subtraction, since these quotients are mostly 0 or 1.
-fn split(total: u32, unit: u32) -> (u32, u32)
-    requires { 0 < unit }
-    ensures quotient { result.0 ≡ total / unit }
-    ensures rest { result.1 ≡ total % unit }
+/// The quotient and the rest of two rests together.
+fn carried(sum: u32, unit: u32) -> (u32, u32)
+    requires { sum < 2 * unit }
+    ensures quotient { result.0 ≡ sum / unit }
+    ensures rest { result.1 ≡ sum % unit }
+    ensures most { result.0 ≤ 1 }
 {
-    let mut rest = total;
-    let mut count = 0;
-    while rest >= unit {
-        rest -= unit;
-        count += 1;
+    if sum < unit {
+        (0, sum)
+    } else {
+        (1, sum - unit)
     }
-    (count, rest)
 }
 
 /// A byte of the sample at a loudness and a volume.
@@ -104,10 +111,10 @@ fn level(envelope: u32, volume: u8) -> u8
 }
 
 impl Playing {
-    ghost use Rattle.std.specs.Prelude.{◌≡◌, ℕ, ◌+◌, ◌<◌, ◌≤◌, min, true, false, IfSome, IfNone};
+    ghost use Rattle.std.specs.Prelude.{◌≡◌, ℕ, ◌+◌, ◌<◌, ◌≤◌, min, true, false, All, IfSome, IfNone};
     ghost use Rattle.audio_mixer.specs.Notes.{is_silent, is_repeating, is_released, is_played, note_has_ended, wrapped, envelope_at, heard, left_of, right_of};
-    ghost use Rattle.audio_mixer.specs.Sounds.{output_of, Note, is_endless};
-    ghost use Rattle.audio_mixer.specs.Voices.{Plays, IsAhead, GivesPair};
+    ghost use Rattle.audio_mixer.specs.Sounds.{output_of, Note, note_is_over, is_endless};
+    ghost use Rattle.audio_mixer.specs.Voices.{Plays, IsAhead, GivesPair, IsShort, AddsSound};
 
     /// The note at its start, unless it is silent.
     fn new(start: &Start) -> Option<Playing>
@@ -118,11 +125,13 @@ impl Playing {
         if start.is_silent() {
             return None;
         }
+        let (advance, period) = (start.advance(), start.period());
         Some(Playing {
             start: *start,
             len: start.len(),
-            advance: start.advance(),
-            period: start.period(),
+            period,
+            whole: advance / period,
+            rest: advance % period,
             envelope: start.envelope(),
             age: 0,
             phase: 0,
@@ -148,7 +157,7 @@ impl Playing {
     /// The place so many bytes ahead, or none where the sample is over and does not repeat.
     #[tactic(auto, unfolding(crate::specs::Notes::wrapped))]
     fn place_ahead(&self, steps: u32) -> Option<u32>
-        requires { steps ≤ 12033564 }
+        requires { steps ≤ 990749 }
         ensures some { IfSome result (λ place. place ≡ wrapped self.now.start (self.now.place + steps)) }
         ensures within { IfSome result (λ place. place < self.now.len) }
         ensures once { IfNone result (is_repeating self.now.start ≡ false) }
@@ -158,7 +167,7 @@ impl Playing {
         if place < self.len {
             Some(place)
         } else if self.start.repeats() {
-            Some(split(place, self.len).1)
+            Some(place % self.len)
         } else {
             None
         }
@@ -171,8 +180,8 @@ impl Playing {
         ensures in_sample { IfSome result (λ to. to.1 < self.now.len) }
         ensures none { IfNone result ((age : ℕ) → Plays self.now self.now.start age → is_played self.now.start age ≡ true) }
     {
-        let (steps, phase) = split(self.phase + self.advance, self.period);
-        match self.place_ahead(steps) {
+        let (carry, phase) = carried(self.phase + self.rest, self.period);
+        match self.place_ahead(self.whole + carry) {
             Some(place) => Some((phase, place)),
             None => None,
         }
@@ -198,6 +207,22 @@ impl Playing {
         Some(pair)
     }
 
+    /// Adds the samples of a frame, and says whether the note ends in it.
+    fn add_frame(&mut self, memory: &Memory, into: &mut [i16; 1470]) -> bool
+        ensures adds { (age : ℕ) → Plays self.old self.old.start age → All IsShort into.old → AddsSound memory.now (Note self.old.start age) 735 into.old into.new }
+        ensures ends { (age : ℕ) → Plays self.old self.old.start age → result ≡ note_is_over self.old.start (age + 735) }
+        ensures plays { result ≡ false → (age : ℕ) → Plays self.old self.old.start age → Plays self.new self.old.start (age + 735) }
+    {
+        for place in 0..PAIRS {
+            let Some(pair) = self.next(memory) else {
+                return true;
+            };
+            into[2 * place] = into[2 * place].wrapping_add(pair.left);
+            into[2 * place + 1] = into[2 * place + 1].wrapping_add(pair.right);
+        }
+        false
+    }
+
     /// Whether the note goes on without end.
     fn is_endless(&self) -> bool
         ensures { result ≡ is_endless self.now.start }
@@ -210,9 +235,9 @@ impl Playing {
         requires { is_endless self.old.start ≡ true }
         ensures { (age : ℕ) → Plays self.old self.old.start age → Plays self.new self.old.start (age + 735) }
     {
-        let total = self.phase + 735 * self.advance;
-        self.place = (self.place + total / self.period) % self.len;
-        self.phase = total % self.period;
+        let phase = self.phase + 735 * self.rest;
+        self.place = (self.place + 735 * self.whole + phase / self.period) % self.len;
+        self.phase = phase % self.period;
     }
 
     /// How loud the note is, 0 to 2184.
@@ -247,9 +272,9 @@ impl Playing {
 }
 
 impl Voice {
-    ghost use Rattle.std.specs.Prelude.{◌≡◌, ℕ, true, false, not, is_none};
+    ghost use Rattle.std.specs.Prelude.{◌≡◌, ℕ, true, false, not, All};
     ghost use Rattle.audio_mixer.specs.Sounds.{Sound, Silence, begun, later, can_end, ends_within, position_of, output_of};
-    ghost use Rattle.audio_mixer.specs.Voices.{Sounds, GivesNext, plays_on};
+    ghost use Rattle.audio_mixer.specs.Voices.{Sounds, IsShort, AddsSound, plays_on};
 
     /// A voice that plays nothing.
     pub(crate) fn stopped() -> Voice
@@ -265,32 +290,18 @@ impl Voice {
         self.playing = Playing::new(note);
     }
 
-    /// The next pair of samples, and whether the note ends with it.
-    pub(crate) fn next(&mut self, memory: &Memory) -> (Pair, bool)
-        ensures gives { (sound : Sound) → Sounds self.old sound → GivesNext memory.now sound result.0 }
-        ensures ends { (sound : Sound) → Sounds self.old sound → result.1 ≡ ends_within 1 sound }
-        ensures sounds { (sound : Sound) → Sounds self.old sound → Sounds self.new (later 1 sound) }
+    /// Adds the samples of a frame, and says whether the note ends in it.
+    pub(crate) fn add_frame(&mut self, memory: &Memory, into: &mut [i16; 1470]) -> bool
+        ensures adds { (sound : Sound) → Sounds self.old sound → All IsShort into.old → AddsSound memory.now sound 735 into.old into.new }
+        ensures ends { (sound : Sound) → Sounds self.old sound → result ≡ ends_within 735 sound }
+        ensures sounds { (sound : Sound) → Sounds self.old sound → Sounds self.new (later 735 sound) }
     {
         let Some(mut playing) = self.playing else {
-            return (Pair { left: 0, right: 0 }, false);
+            return false;
         };
-        match playing.next(memory) {
-            Some(pair) => {
-                self.playing = Some(playing);
-                (pair, false)
-            }
-            None => {
-                self.playing = None;
-                (Pair { left: 0, right: 0 }, true)
-            }
-        }
-    }
-
-    /// Whether the voice plays nothing.
-    pub(crate) fn is_stopped(&self) -> bool
-        ensures { result ≡ is_none self.now.playing }
-    {
-        self.playing.is_none()
+        let ends = playing.add_frame(memory, into);
+        self.playing = if ends { None } else { Some(playing) };
+        ends
     }
 
     /// Whether the voice plays nothing, or a note that goes on without end.

@@ -1,5 +1,6 @@
 mod Rows
 mod Spans
+mod LeadLemmas
 mod FillLemmas
 mod DotLemmas
 mod BlendLemmas

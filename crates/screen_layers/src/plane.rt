@@ -15,6 +15,10 @@ use uxn_memory::Memory;
 /// How many pixels a layer has at the greatest size.
 const PIXELS: usize = 2047 * 2047;
 
+/// How many bytes stand before the pixels. A large allocation begins 16 bytes past a cache line; behind these bytes the
+/// pixels begin at one, where the C library fills rows faster.
+const LEAD: usize = 48;
+
 /// The most bytes that are filled at once: the C library fills more of them by an instruction that is slow to begin.
 const PIECE: usize = 2048;
 
@@ -27,20 +31,22 @@ pub struct Tile {
 }
 
 /// Values 0 to 3 in rows as wide as the screen, which contracts see as a list. It has room for the greatest size.
+/// Contracts do not see the bytes of the lead.
 #[derive(Drop)]
 pub struct Plane {
     pixels: Vec<u8>,
 }
 
 impl Model for Plane {
-    ghost use Rattle.std.specs.Prelude.{ℕ, List, All, ◌<◌, ◌≤◌};
+    ghost use Rattle.std.specs.Prelude.{ℕ, List, All, ◌<◌, ◌≤◌, drop, length};
     ghost use Rattle.std.specs.Vec.{vec_capacity};
 
     ghost Value = { List ℕ };
 
-    ghost view = { λ p. p.pixels.items };
+    ghost view = { λ p. drop 48 p.pixels.items };
 
-    ghost invariant = { λ p. (4190209 ≤ vec_capacity p.pixels) × All (λ colour. colour < 4) p.pixels.items };
+    ghost invariant = { λ p. (4190257 ≤ vec_capacity p.pixels) × (48 ≤ length p.pixels.items)
+        × All (λ colour. colour < 4) (drop 48 p.pixels.items) };
 }
 
 impl Plane {
@@ -48,9 +54,9 @@ impl Plane {
     pub fn new(alloc: Global) -> Result<Plane, AllocError>
         ensures { IfOk result (λ plane. length plane ≡ 0) }
     {
-        Ok(Plane {
-            pixels: Vec::with_capacity(alloc, PIXELS)?,
-        })
+        let mut pixels = Vec::with_capacity(alloc, LEAD + PIXELS)?;
+        pixels.resize(LEAD, 0)?;
+        Ok(Plane { pixels })
     }
 
     /// Takes a size: all values are 0.
@@ -59,7 +65,7 @@ impl Plane {
         ensures { self.new ≡ replicate (size.height * size.width) 0 }
     {
         self.pixels.clear();
-        let _ = self.pixels.resize(size.start(size.height), 0);
+        let _ = self.pixels.resize(LEAD + size.start(size.height), 0);
     }
 
     /// Fills a rectangle.
@@ -71,7 +77,7 @@ impl Plane {
         ensures painted { PaintedOver self.old self.new size.width size.height (fill area.left area.right area.top area.bottom colour) }
         ensures length { length self.new ≡ length self.old }
     {
-        fill_area(&mut self.pixels, size, area, colour);
+        fill_area(&mut self.pixels[LEAD..], size, area, colour);
     }
 
     /// Colours the pixel at a place.
@@ -82,7 +88,7 @@ impl Plane {
         ensures painted { PaintedOver self.old self.new size.width size.height (dot x y colour) }
         ensures length { length self.new ≡ length self.old }
     {
-        self.pixels[size.start(y) + usize::from(x)] = colour;
+        self.pixels[LEAD + (size.start(y) + usize::from(x))] = colour;
     }
 
     /// Paints a tile, as far as it lies within the size. Its coordinates wrap, and so do the addresses of its bytes.
@@ -93,7 +99,7 @@ impl Plane {
             (tile place.x place.y (tile_bytes_at memory.now place.at (tile_size look.now.two_bits)) look.now.columns look.now.flip_y look.now.inks) }
         ensures length { length self.new ≡ length self.old }
     {
-        paint_tile(&mut self.pixels, size, memory, place, look);
+        paint_tile(&mut self.pixels[LEAD..], size, memory, place, look);
     }
 
     /// A row.
@@ -104,7 +110,7 @@ impl Plane {
         ensures length { length result.now ≡ size.width }
         ensures colours { All (λ colour. colour < 4) result.now }
     {
-        let start = size.start(y);
+        let start = LEAD + size.start(y);
         &self.pixels[start..start + usize::from(size.width)]
     }
 
@@ -121,7 +127,7 @@ impl Plane {
         ensures length { length self.new ≡ length self.old }
     {
         compose_at(
-            &mut self.pixels,
+            &mut self.pixels[LEAD..],
             size,
             y,
             foreground.row(size, y),
