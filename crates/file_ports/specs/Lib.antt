@@ -10,3 +10,4 @@ pub mod BeneathLaws
 pub mod PartLaws
 pub mod ActLaws
 pub mod OutsideLaws
+pub mod MemoryLaws

@@ -1,2 +1,3 @@
 pub mod Expansion
+pub mod RangeLaws
 pub mod DebugText

@@ -1,17 +1,29 @@
 //! The expansion port: records that fill and copy memory.
 ghost use Rattle.std.specs.Prelude.{◌≡◌, ◌+◌, ◌%◌, ◌<◌, ◌≤◌, MatchOption};
-ghost use Rattle.system_port.specs.Expansion.{byte_in, short_in, record_place, record_at, done, expanded};
+ghost use Rattle.system_port.specs.Expansion.{byte_in, short_in, range_in, record_at, no_range, target_of, target_at, done, expanded};
 
 use uxn_memory::{BANKS, Memory};
 
-/// A bank of memory and an address in it.
+/// So many bytes of a bank from an address on. Addresses wrap within the bank.
 #[derive(Clone, Copy)]
-pub(crate) struct Place {
-    bank: u16,
-    address: u16,
+pub struct BankRange {
+    pub bank: u16,
+    pub first: u16,
+    pub count: u16,
 }
 
-impl Place {
+impl BankRange {
+    /// No byte.
+    pub fn none() -> BankRange
+        ensures { result ≡ no_range }
+    {
+        BankRange {
+            bank: 0,
+            first: 0,
+            count: 0,
+        }
+    }
+
     /// Its bank, where there is a bank of this number.
     fn bank(self) -> Option<u8>
         ensures { MatchOption result (16 ≤ self.bank) (λ bank. (bank ≡ self.bank) × (bank < 16)) }
@@ -27,12 +39,12 @@ impl Place {
 /// What a record requests.
 #[derive(Clone, Copy)]
 pub(crate) enum Record {
-    /// So many bytes from a place on become a value.
-    Fill(u16, Place, u8),
-    /// So many bytes are copied from the first place to the second, the lowest address first.
-    CopyUp(u16, Place, Place),
+    /// All bytes of a range become a value.
+    Fill(BankRange, u8),
+    /// The bytes of the first range are copied to the second, the lowest address first.
+    CopyUp(BankRange, BankRange),
     /// The same, the highest address first.
-    CopyDown(u16, Place, Place),
+    CopyDown(BankRange, BankRange),
     /// No operation has this number.
     Unknown,
 }
@@ -49,13 +61,15 @@ fn short_in(memory: &Memory, at: u16, offset: u16) -> u16
     memory.get2(at.wrapping_add(offset))
 }
 
-fn record_place(memory: &Memory, at: u16, offset: u16) -> Place
+/// The range whose bank and address stand so many bytes into a record, as long as the record says.
+fn range_in(memory: &Memory, at: u16, offset: u16) -> BankRange
     requires { offset < 256 }
-    ensures { result ≡ record_place memory.now at offset }
+    ensures { result ≡ range_in memory.now at offset }
 {
-    Place {
+    BankRange {
         bank: short_in(memory, at, offset),
-        address: short_in(memory, at, offset + 2),
+        first: short_in(memory, at, offset + 2),
+        count: short_in(memory, at, 1),
     }
 }
 
@@ -65,20 +79,28 @@ impl Record {
     fn at(memory: &Memory, at: u16) -> Record
         ensures { result ≡ record_at memory.now at }
     {
-        let length = short_in(memory, at, 1);
         match byte_in(memory, at, 0) {
-            0x00 => Record::Fill(length, record_place(memory, at, 3), byte_in(memory, at, 7)),
-            0x01 => Record::CopyUp(
-                length,
-                record_place(memory, at, 3),
-                record_place(memory, at, 7),
-            ),
-            0x02 => Record::CopyDown(
-                length,
-                record_place(memory, at, 3),
-                record_place(memory, at, 7),
-            ),
+            0x00 => Record::Fill(range_in(memory, at, 3), byte_in(memory, at, 7)),
+            0x01 => Record::CopyUp(range_in(memory, at, 3), range_in(memory, at, 7)),
+            0x02 => Record::CopyDown(range_in(memory, at, 3), range_in(memory, at, 7)),
             _ => Record::Unknown,
+        }
+    }
+
+    /// The bytes that it changes at most.
+    fn target(self) -> BankRange
+        ensures { result ≡ target_of self }
+    {
+        match self {
+            Record::Fill(to, _) => to,
+            Record::CopyUp(from, to) | Record::CopyDown(from, to) => {
+                if from.bank < u16::from(BANKS) {
+                    to
+                } else {
+                    BankRange::none()
+                }
+            }
+            Record::Unknown => BankRange::none(),
         }
     }
 
@@ -87,28 +109,36 @@ impl Record {
         ensures { memory.new ≡ done self memory.old }
     {
         match self {
-            Record::Fill(length, to, value) => {
+            Record::Fill(to, value) => {
                 if let Some(bank) = to.bank() {
-                    memory.fill(length, bank, to.address, value);
+                    memory.fill(to.count, bank, to.first, value);
                 }
             }
-            Record::CopyUp(length, from, to) => {
+            Record::CopyUp(from, to) => {
                 if let Some(from_bank) = from.bank()
                     && let Some(to_bank) = to.bank()
                 {
-                    memory.copy_up(length, from_bank, from.address, to_bank, to.address);
+                    memory.copy_up(to.count, from_bank, from.first, to_bank, to.first);
                 }
             }
-            Record::CopyDown(length, from, to) => {
+            Record::CopyDown(from, to) => {
                 if let Some(from_bank) = from.bank()
                     && let Some(to_bank) = to.bank()
                 {
-                    memory.copy_down(length, from_bank, from.address, to_bank, to.address);
+                    memory.copy_down(to.count, from_bank, from.first, to_bank, to.first);
                 }
             }
             Record::Unknown => {}
         }
     }
+}
+
+/// The bytes that the record at an address changes at most.
+#[tactic(auto, unfolding(crate::specs::Expansion::target_at))]
+pub fn target(memory: &Memory, at: u16) -> BankRange
+    ensures { result ≡ target_at memory.now at }
+{
+    Record::at(memory, at).target()
 }
 
 /// Does what the record at an address says: its first byte 00 fills with a length, a bank, an address and a

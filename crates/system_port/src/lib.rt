@@ -5,4 +5,4 @@ mod debug;
 mod expansions;
 
 pub use debug::{debug_text, exit_code};
-pub use expansions::expansion;
+pub use expansions::{BankRange, expansion, target};

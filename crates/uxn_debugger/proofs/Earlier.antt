@@ -3,19 +3,19 @@ use Rattle.std.proofs.Common.{◌≡◌, ℕ, zero, suc, ◌+◌, ◌-◌, ◌%�
 use Rattle.std.specs.Prelude.{slice_get, map, option_map, nat_lt, ◌==◌}
 use Rattle.std.proofs.Math.Path.{fun_ext}
 use Rattle.std.proofs.lemmas.Bool.Decides.{nat_tests}
-use Rattle.std.proofs.lemmas.List.{drop-map, length-map, length-reverse, length-take-le}
-use Rattle.std.proofs.lemmas.Option.{slice_get-map}
+use Rattle.std.proofs.lemmas.List.{drop-map, length-map, length-reverse, length-take, length-take-le}
+use Rattle.std.proofs.lemmas.Option.{slice_get-map, slice_get_past}
 use Rattle.uxn_opcodes.specs.declared.Core.{Core}
 use Rattle.tal_words.specs.declared.name.Label.{Label}
-use Rattle.uxn_undo.specs.Kept.{Kept, kept_at, number_held, byte_back}
+use Rattle.uxn_undo.specs.Kept.{Kept, kept_at, holding, byte_back}
 use Rattle.uxn_undo.specs.Laws.{kept_of, Follow, HoldingLaw, GoingBackLaw}
 use Rattle.uxn_undo.specs.Runs.{memory_next, RunLaw}
 use Rattle.uxn_debugger.specs.declared.place.Place.{Place}
 use Rattle.uxn_debugger.specs.declared.place.Place.TheVariants.{Before, End}
 use Rattle.uxn_debugger.specs.Printing.{MomentView, view, text_byte_at, moment_at}
-use Rattle.uxn_debugger.specs.Log.{Shown, before, gone, at_end, moment_of_shown, IsRegular, observed, view_at, given_before, held_before}
-use Rattle.uxn_debugger.specs.Watching.{observed_view, observed_back, keeping}
-use Rattle.uxn_debugger.proofs.Places.{get_at, get_past, within, from_place, taken_get, reverse_next, reverse_get}
+use Rattle.uxn_debugger.specs.Log.{Shown, before, gone, at_end, moment_of_shown, IsRegular, observed, view_at, given_before}
+use Rattle.uxn_debugger.specs.Watching.{observed_view, observed_back}
+use Rattle.uxn_debugger.proofs.Places.{get_at, within, from_place, taken_get, reverse_next, reverse_get}
 
 -- the three laws of what keeps moments
 pub record UndoLaws : Type 0 where
@@ -29,7 +29,7 @@ module _ (labels : List Label) (moments : List Shown) (end : Shown) where
 
   -- what is held once so many moments were shown
   abbrev pub undo_at : ℕ → List Kept
-  undo_at i = take (number_held (kept_before i)) (kept_before i)
+  undo_at i = holding (kept_before i)
 
   length_kept : (i : ℕ) → i ≤ length moments → length (kept_before i) ≡ i
   length_kept i le =
@@ -43,23 +43,15 @@ module _ (labels : List Label) (moments : List Shown) (end : Shown) where
       rw next (reverse_next (map moment_of_shown moments) i (moment_of_shown s) (map moment_of_shown left) (drop-map moment_of_shown i moments ∙ ap (map moment_of_shown) is))
 
   module _ (laws : UndoLaws) where
-    pub held_here : (i : ℕ) → length (undo_at i) ≡ held_before labels moments end i
-    held_here i = laws.holding.number (kept_before i) (undo_at i) (laws.holding.newest (kept_before i))
-
     pub held_within : (i : ℕ) → i ≤ length moments → length (undo_at i) ≤ i
-    held_within i le = omega (arith, (laws.holding.newest (kept_before i)).number.within, length_kept i le)
+    held_within i le =
+        omega (arith, ap length (laws.holding.newest (kept_before i)), length-take (length (undo_at i)) (kept_before i), length_kept i le)
 
     -- one more is kept
     pub keeps : (i : ℕ) (s : Shown) (left : List Shown) → drop i moments ≡ s ∷ left
-        → keeping (kept_at s.core s.page.stored) (undo_at i) ≡ undo_at (i + 1)
+        → holding (kept_at s.core s.page.stored ∷ undo_at i) ≡ undo_at (i + 1)
     keeps i s left is =
-        let kept = kept_at s.core s.page.stored in
-        let older = laws.holding.newest (kept_before i) in
-        let all = laws.holding.one_more (kept_before i) (undo_at i) (keeping kept (undo_at i)) kept older (laws.holding.newest (kept ∷ undo_at i)) in
-        let next : kept_before (i + 1) ≡ kept ∷ kept_before i = ap (map kept_of) (given_next i s left is) in
-        all.newest
-        ∙ ap (λ n. take n (kept ∷ kept_before i)) (laws.holding.number (kept ∷ kept_before i) (keeping kept (undo_at i)) all)
-        ∙ sym (ap (λ all. take (number_held all) all) next)
+        laws.holding.one_more (kept_before i) (kept_at s.core s.page.stored) ∙ sym (ap (λ given. holding (map kept_of given)) (given_next i s left is))
 
     -- what is kept of a moment that is held
     pub record IsKept (i less : ℕ) : Type 0 where
@@ -82,7 +74,8 @@ module _ (labels : List Label) (moments : List Shown) (end : Shown) where
           more = from.more;
           cut = from.cut;
           given = given;
-          kept = taken_get (number_held (kept_before i)) (kept_before i) less (omega (arith, held_here i))
+          kept = ap (λ held. slice_get held less) (laws.holding.newest (kept_before i))
+              ∙ taken_get (length (undo_at i)) (kept_before i) less under
               ∙ slice_get-map kept_of (given_before labels moments end i) less ∙ ap (option_map kept_of) given;
         }
 
@@ -101,8 +94,7 @@ module _ (labels : List Label) (moments : List Shown) (end : Shown) where
           let small : at % 65536 < 65536 = omega arith in
           let follow : Follow (given_before labels moments end i) core.memory =
           rw come.memory at (laws.run.follow (map moment_of_shown moments) end.core.memory i regular.memory) in
-          rw next at (laws.going_back (given_before labels moments end i) (undo_at i) core (moment_of_shown s) less (at % 65536)
-          (laws.holding.newest (kept_before i)) follow under here small)
+          rw next at (laws.going_back (given_before labels moments end i) core (moment_of_shown s) less (at % 65536) follow under here small)
 
       gone_observed : (furthest index : ℕ) (s : Shown) (more : List Shown) → drop index moments ≡ s ∷ more → index < furthest
           → view_at labels moments end furthest index ≡ gone s
@@ -156,7 +148,7 @@ module _ (labels : List Label) (moments : List Shown) (end : Shown) where
       now_before i s left is = view_now i (Some s) (before s) (get_at moments i s left is) refl
 
       pub now_at_end : (i : ℕ) → i ≡ length moments → at_end end ≡ view_at labels moments end i i
-      now_at_end i is = view_now i None (at_end end) (get_past moments i (omega arith)) refl
+      now_at_end i is = view_now i None (at_end end) (slice_get_past moments i (omega arith)) refl
 
       pub comes_before : (i : ℕ) (s : Shown) (left : List Shown) → drop i moments ≡ s ∷ left → IsCome i s.core (Before s.moment)
       comes_before i s left is = record {

@@ -1,12 +1,12 @@
 -- A debugger that is shown a run moment by moment keeps the log of the whole run.
-use Rattle.std.proofs.Common.{◌≡◌, ℕ, zero, suc, ◌+◌, ◌-◌, ◌<◌, ◌≤◌, Bool, true, false, cond, List, [], ◌∷◌, ◌++◌, length, take, drop, Option, Some, None, ◌⊎◌, inl, inr, refl, sym, ap, ◌∙◌, arith}
+use Rattle.std.proofs.Common.{◌≡◌, ℕ, ◌+◌, ◌-◌, ◌<◌, ◌≤◌, Bool, true, false, cond, List, [], ◌∷◌, ◌++◌, length, drop, Option, Some, None, ◌⊎◌, inl, inr, refl, sym, ap, ◌∙◌, arith}
 use Rattle.std.specs.Prelude.{fold, min, max, nat_le}
 use Rattle.std.specs.List.{position_or_len, list_any}
 use Rattle.std.proofs.lemmas.Bool.{cases_Bool, false≢true, eqb-true, eqb-false}
 use Rattle.std.proofs.lemmas.Bool.Decides.{nat_tests}
 use Rattle.std.proofs.lemmas.List.{length-drop}
 use Rattle.tal_words.specs.declared.name.Label.{Label}
-use Rattle.uxn_undo.specs.Kept.{Kept, number_held}
+use Rattle.uxn_undo.specs.Kept.{Kept}
 use Rattle.debug_commands.specs.declared.command.DebugCommand.{DebugCommand}
 use Rattle.debug_commands.specs.declared.command.DebugCommand.TheVariants.{Run, Step, Back}
 use Rattle.uxn_debugger.specs.declared.place.Place.{Place}
@@ -19,7 +19,7 @@ use Rattle.uxn_debugger.specs.Watching.{Watching, is_back, new_watching, observe
 use Rattle.uxn_debugger.proofs.Obeying.{done-none, done-more}
 use Rattle.uxn_debugger.proofs.Forward.{log_without}
 use Rattle.uxn_debugger.proofs.Places.{within, drop_next, first_passes, first_fails}
-use Rattle.uxn_debugger.proofs.Earlier.{UndoLaws, undo_at, held_here, held_within, keeps, sees_back, now_before, now_at_end, comes_before, comes_at_end}
+use Rattle.uxn_debugger.proofs.Earlier.{UndoLaws, undo_at, held_within, keeps, sees_back, now_before, now_at_end, comes_before, comes_at_end}
 use Rattle.uxn_debugger.proofs.Turns.{met_behind, IsFound, Finds, finds_before, finds_at_end}
 
 -- something is waited for
@@ -86,7 +86,7 @@ module _ (labels : List Label) (moments : List Shown) (end : Shown) where
     reaches : (i back : ℕ) (breaks : AddressSet) (log : List ℕ) → i ≤ length moments → back ≤ length (undo_at labels moments end i)
         → reach labels moments end (standing_back i back breaks log) ≡ length (undo_at labels moments end i) - back
     reaches i back breaks log le under =
-        omega (arith, held_here labels moments end laws i, held_within labels moments end laws i le)
+        omega (arith, held_within labels moments end laws i le)
 
     -- a command that waits for nothing is done as the log says
     record Stays (i : ℕ) (place : Place) (back : ℕ) (command : DebugCommand) (breaks : AddressSet) (log : List ℕ) (held : Watching) : Type 0 where
@@ -401,16 +401,12 @@ module _ (labels : List Label) (moments : List Shown) (end : Shown) where
     comes (s ∷ left) i is le =
         comes-moment i s left is (comes left (i + 1) (drop_next moments i s left is) (omega (arith, within moments i s left is)))
 
-none_held : (n : ℕ) → [] ≡ take {A = Kept} n []
-none_held zero = refl
-none_held (suc n) = refl
-
 pub keeps_the_log : UndoLaws → KeepsTheLog
 unfolding log_of
 keeps_the_log laws commands labels moments end regular =
     let log : Bool → List Kept → List ℕ = λ goes_back undo. (ended (fold shown (record (new_watching commands labels) { goes_back = goes_back; undo = undo }) moments) end).log in
     let kept : log true [] ≡ log_of labels moments end commands =
-    ap (log true) (none_held (number_held [])) ∙ comes labels moments end laws regular moments 0 refl (omega arith) commands FirstMoment no_breaks [] tt in
+    ap (log true) (sym laws.holding.none) ∙ comes labels moments end laws regular moments 0 refl (omega arith) commands FirstMoment no_breaks [] tt in
     elim (cases_Bool (list_any is_back commands)) [
       | inl some ↦ ap (λ goes_back. log goes_back []) some ∙ kept
       | inr none ↦

@@ -1,19 +1,16 @@
 -- What stands at a place of a list, of its prefix, and of its prefix in reverse.
-use Rattle.std.proofs.Common.{◌≡◌, ℕ, zero, suc, ◌+◌, ◌-◌, ◌<◌, ◌≤◌, Bool, true, false, cond, List, [], ◌∷◌, ◌++◌, length, take, drop, Some, None, refl, sym, ap, ◌∙◌, arith}
+use Rattle.std.proofs.Common.{◌≡◌, ℕ, zero, suc, ◌+◌, ◌-◌, ◌<◌, ◌≤◌, Bool, true, false, cond, List, [], ◌∷◌, ◌++◌, length, take, drop, get_or, Some, refl, sym, ap, ◌∙◌, arith}
 use Rattle.std.specs.Prelude.{slice_get, not, reverse}
 use Rattle.std.specs.List.{position_or_len}
-use Rattle.std.proofs.lemmas.List.{length-drop, drop-drop, reverse-append}
+use Rattle.std.proofs.Math.Seq.{take-suc}
+use Rattle.std.proofs.lemmas.List.{length-drop, drop-drop, get_or-reverse, get_or-take, length-reverse, length-take-le, reverse-append}
+use Rattle.std.proofs.lemmas.Option.{get_or_from_slice_get, slice_get-get_or}
 
 pub get_at : {A : Type 0} (xs : List A) (i : ℕ) (x : A) (more : List A) → drop i xs ≡ x ∷ more → slice_get xs i ≡ Some x
 get_at [] zero x more is = absurd (omega (arith, ap length is))
 get_at [] (suc i) x more is = absurd (omega (arith, ap length is))
 get_at (y ∷ ys) zero x more is = cc
 get_at (y ∷ ys) (suc i) x more is = get_at ys i x more is
-
-pub get_past : {A : Type 0} (xs : List A) (i : ℕ) → length xs ≤ i → slice_get xs i ≡ None
-get_past [] i past = refl
-get_past (y ∷ ys) zero past = absurd (omega arith)
-get_past (y ∷ ys) (suc i) past = get_past ys i (omega arith)
 
 pub drop_next : {A : Type 0} (xs : List A) (i : ℕ) (x : A) (more : List A) → drop i xs ≡ x ∷ more → drop (i + 1) xs ≡ more
 drop_next xs i x more is = sym (drop-drop 1 i xs) ∙ ap (λ ys. drop 1 ys) is
@@ -49,24 +46,18 @@ taken_get (suc n) (x ∷ xs) zero less = refl
 taken_get (suc n) (x ∷ xs) (suc i) less = taken_get n xs i (omega arith)
 
 take_next : {A : Type 0} (xs : List A) (i : ℕ) (x : A) (more : List A) → drop i xs ≡ x ∷ more → take (suc i) xs ≡ take i xs ++ x ∷ []
-take_next [] zero x more is = absurd (omega (arith, ap length is))
-take_next [] (suc i) x more is = absurd (omega (arith, ap length is))
-take_next (y ∷ ys) zero x more is = let same : y ≡ x = cc in ap (λ z. z ∷ []) same
-take_next (y ∷ ys) (suc i) x more is = ap (λ zs. y ∷ zs) (take_next ys i x more is)
+take_next xs i x more is =
+    take-suc xs i x (within xs i x more is) ∙ ap (λ z. take i xs ++ z ∷ []) (get_or_from_slice_get xs i x x (get_at xs i x more is))
 
 pub reverse_next : {A : Type 0} (xs : List A) (i : ℕ) (x : A) (more : List A) → drop i xs ≡ x ∷ more
     → reverse (take (suc i) xs) ≡ x ∷ reverse (take i xs)
 reverse_next xs i x more is = ap reverse (take_next xs i x more is) ∙ reverse-append (take i xs) (x ∷ [])
 
-reverse_here : {A : Type 0} (xs : List A) (i : ℕ) (x : A) (more : List A) (less : ℕ) → less < suc i → drop i xs ≡ x ∷ more
-    → ((n : ℕ) → n < i → slice_get (reverse (take i xs)) n ≡ slice_get xs (i - suc n))
-    → slice_get (x ∷ reverse (take i xs)) less ≡ slice_get xs (suc i - suc less)
-reverse_here xs i x more zero under is below = let here : suc i - 1 ≡ i = omega arith in rw here (sym (get_at xs i x more is))
-reverse_here xs i x more (suc n) under is below = let there : suc i - suc (suc n) ≡ i - suc n = omega arith in rw there (below n (omega arith))
-
 pub reverse_get : {A : Type 0} (xs : List A) (i less : ℕ) → less < i → i ≤ length xs → slice_get (reverse (take i xs)) less ≡ slice_get xs (i - suc less)
-reverse_get xs zero less under le = absurd (omega arith)
-reverse_get xs (suc i) less under le =
-    let from = from_place xs i (omega arith) in
-    ap (λ ys. slice_get ys less) (reverse_next xs i from.first from.more from.cut)
-    ∙ reverse_here xs i from.first from.more less under from.cut (λ n small. reverse_get xs i n small (omega arith))
+reverse_get xs i less under le =
+    let x = (from_place xs (i - suc less) (omega arith)).first in
+    let size : length (take i xs) ≡ i = length-take-le i xs le in
+    let back : length (take i xs) - 1 - less ≡ i - suc less = omega arith in
+    slice_get-get_or (reverse (take i xs)) less x (omega (arith, length-reverse (take i xs)))
+    ∙ ap Some (get_or-reverse (take i xs) less x (omega arith) ∙ ap (λ n. get_or (take i xs) n x) back ∙ get_or-take i xs (i - suc less) x (omega arith))
+    ∙ sym (slice_get-get_or xs (i - suc less) x (omega arith))

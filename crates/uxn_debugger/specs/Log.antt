@@ -8,7 +8,7 @@ use Rattle.uxn_opcodes.specs.declared.Core.{Core}
 use Rattle.tal_words.specs.declared.name.Label.{Label}
 use Rattle.vector_loop.specs.declared.watch.Moment.{Moment}
 use Rattle.vector_loop.specs.Watch.{Page}
-use Rattle.uxn_undo.specs.Kept.{number_held}
+use Rattle.uxn_undo.specs.Kept.{holding}
 use Rattle.uxn_undo.specs.Laws.{GivenMoments, kept_of}
 use Rattle.uxn_undo.specs.Runs.{InRow}
 use Rattle.debug_commands.specs.declared.command.DebugCommand.{DebugCommand}
@@ -90,7 +90,7 @@ module _ (labels : List Label) (moments : List Shown) (end : Shown) where
   given_before index = reverse (take index (map moment_of_shown moments))
 
   abbrev pub held_before : ℕ → ℕ
-  held_before index = number_held (map kept_of (given_before index))
+  held_before index = length (holding (map kept_of (given_before index)))
 
   -- how many moments back one can go
   abbrev pub reach : Stand → ℕ

@@ -7,7 +7,7 @@ use Rattle.uxn_opcodes.specs.declared.Core.{Core}
 use Rattle.tal_words.specs.declared.name.Label.{Label}
 use Rattle.vector_loop.specs.declared.watch.Moment.{Moment}
 use Rattle.vector_loop.specs.Watch.{Page}
-use Rattle.uxn_undo.specs.Kept.{Kept, kept_at, number_held, byte_back}
+use Rattle.uxn_undo.specs.Kept.{Kept, kept_at, holding, byte_back}
 use Rattle.debug_commands.specs.declared.command.DebugCommand.{DebugCommand}
 use Rattle.debug_commands.specs.declared.command.DebugCommand.TheVariants.{Run, Step, Back}
 use Rattle.uxn_debugger.specs.declared.debugger.Debugger.{Debugger}
@@ -148,14 +148,10 @@ followed held moment =
     if is_awaited held.goal held.breaks moment.moment.address then arrived (before moment) held
     else record held { goal = goal_later held.goal }
 
--- one more moment is kept
-abbrev pub keeping : Kept → List Kept → List Kept
-keeping kept held = take (number_held (kept ∷ held)) (kept ∷ held)
-
--- it is only where some command goes back
+-- one more moment is kept, where some command goes back
 abbrev pub with_kept : Shown → Watching → Watching
 with_kept moment held = record held {
-  undo = if held.goes_back then keeping (kept_at moment.core moment.page.stored) held.undo else held.undo;
+  undo = if held.goes_back then holding (kept_at moment.core moment.page.stored ∷ held.undo) else held.undo;
 }
 
 -- a moment is shown

@@ -125,7 +125,6 @@ impl<'a> Debugger<'a> {
         if !self.goes_back {
             return;
         }
-        the_newest_moments_are_held();
         has_all_ports(ports.stored_page());
         self.undo.keep(core, ports);
     }

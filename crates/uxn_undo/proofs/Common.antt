@@ -16,12 +16,12 @@ pub use Rattle.uxn_opcodes.specs.declared.Core.{Core}
 pub use Rattle.uxn_opcodes.specs.declared.operation.Width.{Width}
 pub use Rattle.uxn_opcodes.specs.declared.operation.Width.TheVariants.{Byte, Short}
 pub use Rattle.uxn_stacks.specs.Cells.{Cells, byte_below}
-pub use Rattle.uxn_undo.specs.Changes.{target_span}
-pub use Rattle.uxn_undo.specs.Kept.{HoldsMoments, Kept, byte_count, most_bytes, most_moments}
+pub use Rattle.uxn_undo.specs.Kept.{Kept, byte_count, most_bytes, most_moments}
 pub use Rattle.uxn_undo.specs.Laws.{DiffersWithin, Follow, GivenMoments}
-pub use Rattle.uxn_undo.specs.Rings.{AreRings, RingEntry, entry_count, with_bytes}
+pub use Rattle.uxn_undo.specs.Rings.{AreRings, entry_count, moment_of}
+unfoldable pub use Rattle.uxn_undo.specs.Rings.{moments_in}
 pub use Rattle.uxn_undo.specs.Row.{HoldsBytes, IsMachine}
-pub use Rattle.uxn_undo.specs.Slots.{entry_in_rows, no_row, row_in, slot_entry}
+pub use Rattle.uxn_undo.specs.Slots.{no_row, row_in, row_of}
 pub use Rattle.uxn_undo.specs.Spans.{address_after_span, covers, distance_to, span_bytes_at, span_in_bank}
 pub use Rattle.uxn_undo.specs.declared.row.Row.{Row}
 pub use Rattle.uxn_undo.specs.declared.span.Span.{Span}

@@ -1,10 +1,11 @@
 -- Going back gives the memory of the moment gone to.
 use Rattle.uxn_undo.proofs.Common.{◌≡◌, ℕ, zero, suc, ◌+◌, ◌<◌, Bool, true, false, cond, List, [], ◌∷◌, length, take, Some, sym, ap, ◌∙◌, inl, inr}
-use Rattle.uxn_undo.proofs.Common.{arith, map, slice_get, slice_index, cases_Bool, nat_tests, take-take, get_or-map-range_with_len, Core, Span}
-use Rattle.uxn_undo.proofs.Common.{address_after_span, distance_to, covers, span_bytes_at, Kept, HoldsMoments, GivenMoments, DiffersWithin, Follow}
+use Rattle.uxn_undo.proofs.Common.{arith, map, slice_get, slice_index, cases_Bool, nat_tests, take-take, get_or-map-range_with_len, Span}
+use Rattle.uxn_undo.proofs.Common.{address_after_span, distance_to, covers, span_bytes_at, Kept, GivenMoments, DiffersWithin, Follow}
 use Rattle.uxn_undo.specs.Changes.{instruction_span}
-use Rattle.uxn_undo.specs.Kept.{byte_back}
-use Rattle.uxn_undo.specs.Laws.{kept_of}
+use Rattle.uxn_undo.specs.Kept.{holding, byte_back}
+use Rattle.uxn_undo.specs.Laws.{kept_of, GoingBackLaw}
+use Rattle.uxn_undo.proofs.Holding.{holding_law}
 
 -- an address that is covered is so far behind the first one as is said
 pub record IsPlace (span : Span) (at : ℕ) : Type 0 where
@@ -45,11 +46,11 @@ many_back (given ∷ older) last moment (suc back) at follow here small =
     (one_back (instruction_span given.core given.stored) given.core.memory last at follow.0 small)
     ∙ many_back older given.core.memory moment back at follow.1 here small
 
-pub going_back_law : (given : List GivenMoments) (held : List Kept) (last : Core) (moment : GivenMoments) (back at : ℕ)
-    → HoldsMoments (map kept_of given) held → Follow given last.memory → back < length held → slice_get given back ≡ Some moment → at < 65536
-    → byte_back (take (back + 1) held) at (slice_index last.memory at) ≡ slice_index moment.core.memory at
-going_back_law given held last moment back at holds follow within here small =
+pub going_back_law : GoingBackLaw
+going_back_law given last moment back at follow within here small =
+    let held = holding (map kept_of given) in
     let next : back + 1 ≡ suc back = omega arith in
     let prefix : take (suc back) held ≡ take (suc back) (map kept_of given) =
-    ap (λ (kept : List Kept). take (suc back) kept) holds.newest ∙ take-take (suc back) (length held) (map kept_of given) (omega arith) in
+    ap (λ (kept : List Kept). take (suc back) kept) (holding_law.newest (map kept_of given))
+    ∙ take-take (suc back) (length held) (map kept_of given) (omega arith) in
     rw (next, prefix) (many_back given last.memory moment back at follow here small)

@@ -1,120 +1,136 @@
 -- What keeps one moment after another holds the newest of all of them.
-use Rattle.uxn_undo.proofs.Common.{◌≡◌, ℕ, zero, suc, ◌<◌, ◌≤◌, List, [], ◌∷◌, length, take, refl, sym, ap, ◌∙◌, inl, inr, arith, sum_by, cases_lt}
-use Rattle.uxn_undo.proofs.Common.{cases_Bool, nat_tests, take-take, length-take-le, sum_by-cons, Kept, HoldsMoments, byte_count, most_moments}
-use Rattle.uxn_undo.proofs.Common.{most_bytes}
-use Rattle.std.specs.Prelude.{◌-◌, nat_le}
-use Rattle.uxn_undo.specs.Kept.{Fits, fitting_moments, number_held}
+use Rattle.uxn_undo.proofs.Common.{◌≡◌, ℕ, zero, suc, ◌-◌, ◌<◌, ◌≤◌, List, [], ◌∷◌, length, take, refl, sym, ap, ◌∙◌, inl, inr, arith, sum_by}
+use Rattle.uxn_undo.proofs.Common.{cases_lt, nat_tests, sum_by-cons, Kept, byte_count, most_moments, most_bytes}
+use Rattle.std.proofs.Common.{◌+◌, Bool, true, false}
+use Rattle.std.proofs.lemmas.List.{nil_from_length, take_all}
+use Rattle.std.specs.Prelude.{◌&&◌, nat_le, nat_lt}
+use Rattle.uxn_undo.specs.Kept.{held_of, holding}
 use Rattle.uxn_undo.specs.Laws.{HoldingLaw}
 
--- what is held of the older moments is as good as all of them, as far as it goes
-same_prefix : (kept : Kept) (given held : List Kept) (n : ℕ) → held ≡ take (length held) given → n ≤ suc (length held)
-    → take n (kept ∷ held) ≡ take n (kept ∷ given)
-same_prefix kept given held zero newest le = refl
-same_prefix kept given held (suc n) newest le =
-    ap (λ (older : List Kept). kept ∷ older)
-    (ap (λ (older : List Kept). take n older) newest ∙ take-take n (length held) given (omega arith))
+-- a moment is held before older ones, or its bytes are too many
+pub held-next : (left room : ℕ) (kept : Kept) (older : List Kept) → byte_count kept ≤ room
+    → held_of (suc left) room (kept ∷ older) ≡ kept ∷ held_of left (room - byte_count kept) older
+unfolding held_of
+held-next left room kept older small = let is : nat_le (byte_count kept) room ≡ true = grind (arith, nat_tests) in rw is refl
 
--- with more moments than these there is no room
-no_room : (given held now : List Kept) (kept : Kept) → HoldsMoments given held → HoldsMoments (kept ∷ held) now
-    → (more : ℕ) → length now < more → more ≤ suc (length given) → more ≤ most_moments → most_bytes < sum_by byte_count (take more (kept ∷ given))
-no_room given held now kept before after zero above within moments = absurd (omega arith)
-no_room given held now kept before after (suc more) above within moments =
-    elim (cases_lt (length held) more) [
-      | inl past ↦
-          let full : most_bytes < sum_by byte_count (take more given) = before.number.greatest more past (omega arith) (omega arith) in
-          omega (arith, sum_by-cons byte_count kept (take more given))
-      | inr here ↦
-          let full : most_bytes < sum_by byte_count (take (suc more) (kept ∷ held)) = after.number.greatest (suc more) above (omega arith) moments in
-          rw (sym (same_prefix kept given held (suc more) before.newest (omega arith))) full
+held-large : (left room : ℕ) (kept : Kept) (older : List Kept) → room < byte_count kept → held_of (suc left) room (kept ∷ older) ≡ []
+unfolding held_of
+held-large left room kept older large = let not : nat_le (byte_count kept) room ≡ false = grind (arith, nat_tests) in rw not refl
+
+held-none : (room : ℕ) (given : List Kept) → held_of 0 room given ≡ []
+unfolding held_of
+held-none room given = refl
+
+held-nothing : (left room : ℕ) → held_of left room [] ≡ []
+unfolding held_of
+held-nothing zero room = refl
+held-nothing (suc left) room = refl
+
+-- what is held fits, and is the newest
+pub record IsHeld (left room : ℕ) (given held : List Kept) : Type 0 where
+  pub few : length held ≤ left
+  pub small : sum_by byte_count held ≤ room
+  pub newest : held ≡ take (length held) given
+
+nothing-held : (left room : ℕ) (given : List Kept) → IsHeld left room given []
+nothing-held left room given = record { few = omega arith; small = omega arith; newest = refl }
+
+pub is-held : (left room : ℕ) (given : List Kept) → IsHeld left room given (held_of left room given)
+is-held zero room given = rw (held-none room given) (nothing-held 0 room given)
+is-held (suc left) room [] = rw (held-nothing (suc left) room) (nothing-held (suc left) room [])
+is-held (suc left) room (kept ∷ older) = elim (cases_lt room (byte_count kept)) [
+  | inl large ↦ rw (held-large left room kept older large) (nothing-held (suc left) room (kept ∷ older))
+  | inr small ↦
+      let rest = is-held left (room - byte_count kept) older in
+      let held = held_of left (room - byte_count kept) older in
+      rw (held-next left room kept older small) (record {
+        few = omega (arith, rest.few);
+        small = omega (arith, rest.small, sum_by-cons byte_count kept held);
+        newest = ap (λ (z : List Kept). kept ∷ z) rest.newest;
+      })
+]
+
+-- all moments are, where they fit
+pub held-all : (left room : ℕ) (given : List Kept) → length given ≤ left → sum_by byte_count given ≤ room → held_of left room given ≡ given
+held-all left room [] few small = held-nothing left room
+held-all zero room (kept ∷ older) few small = absurd (omega arith)
+held-all (suc left) room (kept ∷ older) few small =
+    let sum = sum_by-cons byte_count kept older in
+    held-next left room kept older (omega arith)
+    ∙ ap (λ (z : List Kept). kept ∷ z) (held-all left (room - byte_count kept) older (omega arith) (omega arith))
+
+-- nothing depends on the moments behind those that are held
+held-take : (left room n : ℕ) (given : List Kept) → length (held_of left room given) ≤ n → held_of left room (take n given) ≡ held_of left room given
+held-take left room zero given few = held-nothing left room ∙ sym (nil_from_length (held_of left room given) (omega (arith, few)))
+held-take zero room (suc n) given few = held-none room (take (suc n) given) ∙ sym (held-none room given)
+held-take (suc left) room (suc n) [] few = refl
+held-take (suc left) room (suc n) (kept ∷ older) few = elim (cases_lt room (byte_count kept)) [
+  | inl large ↦ held-large left room kept (take n older) large ∙ sym (held-large left room kept older large)
+  | inr small ↦
+      let next = held-next left room kept older small in
+      held-next left room kept (take n older) small
+      ∙ ap (λ (z : List Kept). kept ∷ z) (held-take left (room - byte_count kept) n older (omega (arith, few, ap length next))) ∙ sym next
+]
+
+-- more room holds no fewer
+held-more : (left room more_left more : ℕ) (given : List Kept) → left ≤ more_left → room ≤ more
+    → length (held_of left room given) ≤ length (held_of more_left more given)
+held-more zero room more_left more given few le = omega (arith, ap length (held-none room given))
+held-more (suc left) room zero more given few le = absurd (omega arith)
+held-more (suc left) room (suc more_left) more [] few le = omega (arith, ap length (held-nothing (suc left) room))
+held-more (suc left) room (suc more_left) more (kept ∷ older) few le = elim (cases_lt room (byte_count kept)) [
+  | inl large ↦ omega (arith, ap length (held-large left room kept older large))
+  | inr small ↦ omega (
+    arith,
+    ap length (held-next left room kept older small),
+    ap length (held-next more_left more kept older (omega arith)),
+    held-more left (room - byte_count kept) more_left (more - byte_count kept) older (omega arith) (omega arith),
+  )
+]
+
+-- whether there is room for one more moment that keeps so many bytes
+abbrev has_room_for : ℕ → List Kept → Bool
+has_room_for count held = nat_lt (length held) most_moments && nat_le (sum_by byte_count held + count) most_bytes
+
+-- without room the oldest is none of those that are held beside it, and with room all are
+pub held-fewer : (count : ℕ) (held before now : List Kept) (room : Bool) → room ≡ has_room_for count held → room ≡ false
+    → count < 65536 → now ≡ take (length held - 1) held → held_of 65535 (most_bytes - count) held ≡ held_of 65535 (most_bytes - count) before
+    → held_of 65535 (most_bytes - count) now ≡ held_of 65535 (most_bytes - count) before
+held-fewer count held before now room test none short is same =
+    let all = is-held 65535 (most_bytes - count) held in
+    let whole = held_of 65535 (most_bytes - count) held in
+    let fewer : length whole ≤ length held - 1 = elim (cases_lt (length whole) (length held)) [
+      | inl less ↦ omega arith
+      | inr full ↦
+          let same : whole ≡ held = all.newest ∙ take_all (length whole) held full in
+          let few : length held < 65536 = omega (arith, all.few, ap length same) in
+          let small : sum_by byte_count held ≤ most_bytes - count = rw same at all.small in
+          absurd (grind (arith, nat_tests))
+    ] in
+    ap (held_of 65535 (most_bytes - count)) is ∙ held-take 65535 (most_bytes - count) (length held - 1) held fewer ∙ same
+
+pub held-fits : (count : ℕ) (held before : List Kept) (room : Bool) → room ≡ has_room_for count held → room ≡ true
+    → held_of 65535 (most_bytes - count) held ≡ held_of 65535 (most_bytes - count) before → held ≡ held_of 65535 (most_bytes - count) before
+held-fits count held before room test is same =
+    sym (held-all 65535 (most_bytes - count) held (grind (arith, nat_tests)) (grind (arith, nat_tests))) ∙ same
+
+one_more : (given : List Kept) (kept : Kept) → holding (kept ∷ holding given) ≡ holding (kept ∷ given)
+one_more given kept =
+    let all = is-held most_moments most_bytes given in
+    let held = holding given in
+    elim (cases_lt most_bytes (byte_count kept)) [
+      | inl large ↦ held-large 65535 most_bytes kept held large ∙ sym (held-large 65535 most_bytes kept given large)
+      | inr small ↦
+          held-next 65535 most_bytes kept held small
+          ∙ ap (λ (z : List Kept). kept ∷ held_of 65535 (most_bytes - byte_count kept) z) all.newest
+          ∙ ap (λ (z : List Kept). kept ∷ z) (held-take 65535 (most_bytes - byte_count kept) (length held) given
+          (held-more 65535 (most_bytes - byte_count kept) most_moments most_bytes given (omega arith) (omega arith)))
+          ∙ sym (held-next 65535 most_bytes kept given small)
     ]
-
-one_more : (given held now : List Kept) (kept : Kept) → HoldsMoments given held → HoldsMoments (kept ∷ held) now → HoldsMoments (kept ∷ given) now
-one_more given held now kept before after =
-    let same = same_prefix kept given held (length now) before.newest after.number.within in
-    let within : length now ≤ suc (length held) = after.number.within in
-    let older : length held ≤ length given = before.number.within in
-    record {
-      number = record {
-        within = omega arith;
-        moments = after.number.moments;
-        bytes = rw (sym same) after.number.bytes;
-        greatest = no_room given held now kept before after;
-      };
-      newest = after.newest ∙ same;
-    }
-
--- as many are held as fit
-one_more_fits : (left room : ℕ) (kept : Kept) (older : List Kept) (number : ℕ) → byte_count kept ≤ room → Fits left (room - byte_count kept) older number
-    → (more : ℕ) → suc number < more → more ≤ suc (length older) → more ≤ suc left → room < sum_by byte_count (take more (kept ∷ older))
-one_more_fits left room kept older number small fits zero above within few = absurd (omega arith)
-one_more_fits left room kept older number small fits (suc more) above within few =
-    let full : room - byte_count kept < sum_by byte_count (take more older) = fits.greatest more (omega arith) (omega arith) (omega arith) in
-    omega (arith, full, sum_by-cons byte_count kept (take more older))
-
-one_fits : (left room : ℕ) (kept : Kept) (older : List Kept) (number : ℕ) → byte_count kept ≤ room → Fits left (room - byte_count kept) older number
-    → Fits (suc left) room (kept ∷ older) (suc number)
-one_fits left room kept older number small fits = record {
-  within = omega (arith, fits.within);
-  moments = omega (arith, fits.moments);
-  bytes = omega (arith, fits.bytes, sum_by-cons byte_count kept (take number older));
-  greatest = one_more_fits left room kept older number small fits;
-}
-
-all_too_large : (room : ℕ) (kept : Kept) (older : List Kept) → room < byte_count kept → (more : ℕ) → 0 < more
-    → room < sum_by byte_count (take more (kept ∷ older))
-all_too_large room kept older large zero above = absurd (omega arith)
-all_too_large room kept older large (suc more) above = omega (arith, sum_by-cons byte_count kept (take more older))
-
-too_large : (left room : ℕ) (kept : Kept) (older : List Kept) → room < byte_count kept → Fits (suc left) room (kept ∷ older) 0
-too_large left room kept older large = record {
-  within = omega arith;
-  moments = omega arith;
-  bytes = omega arith;
-  greatest = λ more above within few. all_too_large room kept older large more above;
-}
-
-fits : (left room : ℕ) (given : List Kept) → Fits left room given (fitting_moments left room given)
-unfolding fitting_moments
-fits zero room given = search arith
-fits (suc left) room [] = search arith
-fits (suc left) room (kept ∷ older) =
-    elim (cases_Bool (nat_le (byte_count kept) room)) [
-      | inl is ↦
-          let small : byte_count kept ≤ room = grind (arith, nat_tests) in
-          rw is (one_fits left room kept older (fitting_moments left (room - byte_count kept) older) small (fits left (room - byte_count kept) older))
-      | inr not ↦
-          let large : room < byte_count kept = grind (arith, nat_tests) in
-          rw not (too_large left room kept older large)
-    ]
-
-number : (given held : List Kept) → HoldsMoments given held → length held ≡ number_held given
-number given held holds =
-    let all = fits most_moments most_bytes given in
-    elim (cases_lt (length held) (number_held given)) [
-      | inl fewer ↦
-          let full : most_bytes < sum_by byte_count (take (number_held given) given) =
-          holds.number.greatest (number_held given) fewer all.within all.moments in
-          let bytes : sum_by byte_count (take (number_held given) given) ≤ most_bytes = all.bytes in
-          absurd (omega arith)
-      | inr at_least ↦ elim (cases_lt (number_held given) (length held)) [
-        | inl more ↦
-            let full : most_bytes < sum_by byte_count (take (length held) given) =
-            all.greatest (length held) more holds.number.within holds.number.moments in
-            let bytes : sum_by byte_count (take (length held) given) ≤ most_bytes = holds.number.bytes in
-            absurd (omega arith)
-        | inr at_most ↦ omega arith
-      ]
-    ]
-
-newest : (given : List Kept) → HoldsMoments given (take (number_held given) given)
-newest given =
-    let all = fits most_moments most_bytes given in
-    let size : length (take (number_held given) given) ≡ number_held given = length-take-le (number_held given) given all.within in
-    record {
-      number = rw size all;
-      newest = rw size refl;
-    }
 
 pub holding_law : HoldingLaw
-unfolding fitting_moments
-holding_law = record { none = record { number = fits most_moments most_bytes []; newest = refl }; one_more = one_more; number = number; newest = newest }
+holding_law = record {
+  none = held-nothing most_moments most_bytes;
+  one_more = one_more;
+  newest = λ given. (is-held most_moments most_bytes given).newest;
+}

@@ -1,152 +1,33 @@
--- Two stacks that hold the same moments.
+-- Two rings and the slots that hold the same moments.
 use Rattle.uxn_undo.proofs.Common.{◌≡◌, ℕ, zero, suc, ◌+◌, ◌-◌, ◌<◌, ◌≤◌, Bool, true, false, cond, List, [], ◌∷◌, ◌++◌, length, take, drop, Some}
 use Rattle.uxn_undo.proofs.Common.{None, refl, sym, ap, ◌∙◌, arith, Option, map, slice_get, slice_index, sum_by, option_map, range_with_len}
 use Rattle.uxn_undo.proofs.Common.{nat_tests, take-take, get_or-take, get_or-drop, length-take, length-take-le, length-append, sum_by-cons}
-use Rattle.uxn_undo.proofs.Common.{length-map-range_with_len, covers, distance_to, Kept, byte_count, Buffer, buffer, RingEntry, with_bytes}
-use Rattle.uxn_undo.proofs.Common.{entry_count, AreRings}
+use Rattle.uxn_undo.proofs.Common.{length-map-range_with_len, covers, distance_to, Kept, byte_count, Buffer, buffer, Row, Record, moment_of}
+use Rattle.uxn_undo.proofs.Common.{entry_count, row_of, AreRings, moments_in}
 use Rattle.std.specs.Prelude.{get_or}
 use Rattle.std.proofs.lemmas.List.{drop-take, take_at, drop_at, take_all, drop-drop, drop_more}
 use Rattle.std.proofs.lemmas.List.Sums.{sum_by_more, sum_by_more_le}
-use Rattle.std.proofs.lemmas.Option.{get_or_from_slice_get, slice_get-get_or, slice_get_within}
+use Rattle.std.proofs.lemmas.Option.{get_or_from_slice_get, slice_get_within}
 use Rattle.uxn_undo.specs.Kept.{byte_back}
-use Rattle.uxn_undo.specs.Rings.{joined_entries}
-
-pub length-joined_entries : (records : List RingEntry) (bytes : List ℕ) → length (joined_entries records bytes) ≡ length records
-unfolding joined_entries
-length-joined_entries [] bytes = refl
-length-joined_entries (newest ∷ older) bytes = ap suc (length-joined_entries older (drop (entry_count newest) bytes))
-
-pub counts-joined_entries : (records : List RingEntry) (bytes : List ℕ) → sum_by byte_count (joined_entries records bytes) ≡ sum_by entry_count records
-unfolding joined_entries
-counts-joined_entries [] bytes = refl
-counts-joined_entries (newest ∷ older) bytes =
-    sum_by-cons byte_count (with_bytes newest (take (entry_count newest) bytes)) (joined_entries older (drop (entry_count newest) bytes))
-    ∙ ap (λ n. entry_count newest + n) (counts-joined_entries older (drop (entry_count newest) bytes))
-    ∙ sym (sum_by-cons entry_count newest older)
-
--- one more record, with its bytes
-pub joined_entries-push : (newest : RingEntry) (older : List RingEntry) (bytes others : List ℕ) → length bytes ≡ entry_count newest
-    → joined_entries (newest ∷ older) (bytes ++ others) ≡ with_bytes newest bytes ∷ joined_entries older others
-unfolding joined_entries
-joined_entries-push newest older bytes others size =
-    ap (λ (z : List ℕ). with_bytes newest z ∷ joined_entries older (drop (entry_count newest) (bytes ++ others))) (take_at bytes others (entry_count newest) size)
-    ∙ ap (λ (z : List ℕ). with_bytes newest bytes ∷ joined_entries older z) (drop_at bytes others (entry_count newest) size)
-
--- the newest records, with their bytes
-joined_entries-take : (n : ℕ) (records : List RingEntry) (bytes : List ℕ)
-    → joined_entries (take n records) (take (sum_by entry_count (take n records)) bytes) ≡ take n (joined_entries records bytes)
-unfolding joined_entries
-joined_entries-take zero records bytes = refl
-joined_entries-take (suc n) [] bytes = refl
-joined_entries-take (suc n) (newest ∷ older) bytes =
-    let count = entry_count newest in
-    let rest = sum_by entry_count (take n older) in
-    ap (λ s. with_bytes newest (take count (take s bytes)) ∷ joined_entries (take n older) (drop count (take s bytes))) (sum_by-cons entry_count newest (take n older))
-    ∙ ap (λ (z : List ℕ). with_bytes newest z ∷ joined_entries (take n older) (drop count (take (count + rest) bytes))) (take-take count (count + rest) bytes (omega arith))
-    ∙ ap (λ (z : List ℕ). with_bytes newest (take count bytes) ∷ joined_entries (take n older) z) (drop-take count rest bytes)
-    ∙ ap (λ (z : List Kept). with_bytes newest (take count bytes) ∷ z) (joined_entries-take n older (drop count bytes))
 
 -- where the last record ends
-last_ends : (records : List RingEntry) (last : RingEntry) (i : ℕ) → length records ≡ suc i → slice_get records i ≡ Some last
+last_ends : (records : List Record) (last : Record) (i : ℕ) → length records ≡ suc i → slice_get records i ≡ Some last
     → sum_by entry_count (take i records) + entry_count last ≡ sum_by entry_count records
 last_ends records last i size is =
     let all : take (i + 1) records ≡ records = take_all (i + 1) records (omega arith) in
     let here : get_or records i last ≡ last = get_or_from_slice_get records i last last is in
     let more = sum_by_more entry_count records i last (omega arith) in
-    sym (ap (λ (xs : List RingEntry). sum_by entry_count xs) (sym all) ∙ more ∙ ap (λ r. sum_by entry_count (take i records) + entry_count r) here)
-
-pub record Forgotten (records : List RingEntry) (bytes : List ℕ) (last : RingEntry) : Type 0 where
-  pub moments : joined_entries (take (length records - 1) records) (take (length bytes - entry_count last) bytes) ≡ take (length (joined_entries records bytes) - 1) (joined_entries records bytes)
-  pub filled : length (take (length bytes - entry_count last) bytes) ≡ sum_by entry_count (take (length records - 1) records)
-  pub fits : entry_count last ≤ length bytes
-
-pub forgotten : (records : List RingEntry) (bytes : List ℕ) (last : RingEntry) → length bytes ≡ sum_by entry_count records
-    → slice_get records (length records - 1) ≡ Some last → Forgotten records bytes last
-forgotten records bytes last filled is =
-    let i = length records - 1 in
-    let less : i < length records = slice_get_within records i last is in
-    let ends : sum_by entry_count (take i records) + entry_count last ≡ sum_by entry_count records = last_ends records last i (omega arith) is in
-    let size : length bytes - entry_count last ≡ sum_by entry_count (take i records) = omega arith in
-    record {
-      moments = ap (λ n. joined_entries (take i records) (take n bytes)) size ∙ joined_entries-take i records bytes
-          ∙ ap (λ n. take (n - 1) (joined_entries records bytes)) (sym (length-joined_entries records bytes));
-      filled = ap (λ n. length (take n bytes)) size ∙ length-take-le (sum_by entry_count (take i records)) bytes (omega arith);
-      fits = omega arith;
-    }
-
--- a part of a record that does not lie in its bytes
-pub at_joined : {X : Type 0} (f : Kept → X) (g : RingEntry → X) → ((r : RingEntry) (bytes : List ℕ) → f (with_bytes r bytes) ≡ g r)
-    → (records : List RingEntry) (bytes : List ℕ) (i : ℕ) (r : RingEntry) → slice_get records i ≡ Some r
-    → option_map f (slice_get (joined_entries records bytes) i) ≡ Some (g r)
-unfolding joined_entries
-at_joined f g same [] bytes i r is = cc
-at_joined f g same (newest ∷ older) bytes zero r is =
-    let here : newest ≡ r = cc in
-    ap Some (same newest (take (entry_count newest) bytes) ∙ ap g here)
-at_joined f g same (newest ∷ older) bytes (suc i) r is = at_joined f g same older (drop (entry_count newest) bytes) i r is
+    sym (ap (λ (xs : List Record). sum_by entry_count xs) (sym all) ∙ more ∙ ap (λ r. sum_by entry_count (take i records) + entry_count r) here)
 
 -- a byte that a record keeps
-kept_byte : (bytes : List ℕ) (r : RingEntry) (begin at byte : ℕ) (is : Bool) → covers r.span at ≡ is
+kept_byte : (bytes : List ℕ) (r : Record) (begin at byte : ℕ) (is : Bool) → covers r.span at ≡ is
     → cond is (slice_index (take (entry_count r) (drop begin bytes)) (distance_to r.span at)) byte ≡ cond is (slice_index bytes (begin + distance_to r.span at)) byte
 kept_byte bytes r begin at byte false e = refl
 kept_byte bytes r begin at byte true e =
     let less : distance_to r.span at < entry_count r = grind (arith, nat_tests) in
     get_or-take (entry_count r) (drop begin bytes) (distance_to r.span at) 0 less ∙ get_or-drop begin bytes (distance_to r.span at) 0
 
--- one moment further back
-pub next_back : (records : List RingEntry) (bytes : List ℕ) (back i begin at byte next : ℕ) (r : RingEntry) → i < back → slice_get records i ≡ Some r
-    → next ≡ cond (covers r.span at) (slice_index bytes (begin + distance_to r.span at)) byte
-    → byte_back (take (back - i) (joined_entries (drop i records) (drop begin bytes))) at byte
-    ≡ byte_back (take (back - (i + 1)) (joined_entries (drop (i + 1) records) (drop (begin + entry_count r) bytes))) at next
-unfolding byte_back joined_entries
-next_back records bytes back i begin at byte next r less is found =
-    let k = back - (i + 1) in
-    let one : back - i ≡ suc k = omega arith in
-    let rest : drop i records ≡ r ∷ drop (i + 1) records =
-    drop_more records i r (slice_get_within records i r is) ∙ ap (λ first. first ∷ drop (i + 1) records) (get_or_from_slice_get records i r r is) in
-    let kept = take (entry_count r) (drop begin bytes) in
-    let same : cond (covers r.span at) (slice_index kept (distance_to r.span at)) byte ≡ next =
-    kept_byte bytes r begin at byte (covers r.span at) refl ∙ sym found in
-    rw (one, rest) (ap (λ (z : List ℕ). byte_back (take k (joined_entries (drop (i + 1) records) z)) at (cond (covers r.span at) (slice_index kept (distance_to r.span at)) byte)) (drop-drop (entry_count r) begin bytes)
-    ∙ ap (λ b. byte_back (take k (joined_entries (drop (i + 1) records) (drop (begin + entry_count r) bytes))) at b) same)
-
--- what the two stacks hold
-pub length-held : (records : List RingEntry) (bytes : List ℕ) (held : List Kept) → joined_entries records bytes ≡ held → length records ≡ length held
-length-held records bytes held is = sym (length-joined_entries records bytes) ∙ ap (λ (z : List Kept). length z) is
-
-pub bytes-held : (records : Buffer RingEntry) (bytes : Buffer ℕ) (held : List Kept) → joined_entries records.items bytes.items ≡ held
-    → AreRings records bytes → sum_by byte_count held ≡ length bytes.items
-bytes-held records bytes held is rings =
-    ap (λ (z : List Kept). sum_by byte_count z) (sym is) ∙ counts-joined_entries records.items bytes.items ∙ sym rings.filled
-
--- no moment is held
-pub forgotten-none : (records : List RingEntry) (bytes : List ℕ) → slice_get records (length records - 1) ≡ None
-    → joined_entries records bytes ≡ take (length (joined_entries records bytes) - 1) (joined_entries records bytes)
-unfolding joined_entries
-forgotten-none [] bytes none = refl
-forgotten-none (r ∷ older) bytes none =
-    let last : suc (length older) - 1 ≡ length older = omega arith in
-    let some = slice_get-get_or (r ∷ older) (length older) r (omega arith) in
-    let here : slice_get (r ∷ older) (length older) ≡ None = ap (λ i. slice_get (r ∷ older) i) (sym last) ∙ none in
-    cc
-
-pub forgotten-rings : (records : Buffer RingEntry) (bytes : Buffer ℕ) (last : RingEntry) → AreRings records bytes
-    → slice_get records.items (length records.items - 1) ≡ Some last
-    → AreRings (buffer (take (length records.items - 1) records.items) records.capacity)
-    (buffer (take (length bytes.items - entry_count last) bytes.items) bytes.capacity)
-forgotten-rings records bytes last rings is =
-    let done = forgotten records.items bytes.items last rings.filled is in
-    let few : length records.items ≤ 65536 = rings.few in
-    let small : length bytes.items ≤ 16777216 = rings.small in
-    record {
-      moments = rings.moments;
-      room = rings.room;
-      few = rw (length-take (length records.items - 1) records.items) (omega arith);
-      small = rw (length-take (length bytes.items - entry_count last) bytes.items) (omega arith);
-      filled = done.filled;
-    }
-
-in_span : (r : RingEntry) (at distance : ℕ) (is : Bool) → covers r.span at ≡ is → Some distance ≡ cond is (Some (distance_to r.span at)) None
+in_span : (r : Record) (at distance : ℕ) (is : Bool) → covers r.span at ≡ is → Some distance ≡ cond is (Some (distance_to r.span at)) None
     → (begin size : ℕ) → begin + entry_count r ≤ size → begin + distance < size
 in_span r at distance false e found begin size fits = cc
 in_span r at distance true e found begin size fits =
@@ -155,7 +36,7 @@ in_span r at distance true e found begin size fits =
     omega arith
 
 -- a byte that a record keeps lies in the second stack
-pub in_bytes : (records : List RingEntry) (bytes : List ℕ) (i begin at distance : ℕ) (r : RingEntry) → length bytes ≡ sum_by entry_count records
+pub in_bytes : (records : List Record) (bytes : List ℕ) (i begin at distance : ℕ) (r : Record) → length bytes ≡ sum_by entry_count records
     → slice_get records i ≡ Some r → begin ≡ sum_by entry_count (take i records)
     → Some distance ≡ cond (covers r.span at) (Some (distance_to r.span at)) None → begin + distance < length bytes
 in_bytes records bytes i begin at distance r filled is begins found =
@@ -175,7 +56,7 @@ pub byte_found : (bytes : List ℕ) (begin byte next far : ℕ) (found : Option 
 byte_found bytes begin byte next far found true e at = at ∙ ap (byte_at bytes begin byte) e
 byte_found bytes begin byte next far found false e at = at ∙ ap (byte_at bytes begin byte) e
 
-pub begins_next : (records : List RingEntry) (i : ℕ) (r : RingEntry) → slice_get records i ≡ Some r
+pub begins_next : (records : List Record) (i : ℕ) (r : Record) → slice_get records i ≡ Some r
     → sum_by entry_count (take (i + 1) records) ≡ sum_by entry_count (take i records) + entry_count r
 begins_next records i r is =
     sum_by_more entry_count records i r (slice_get_within records i r is)
@@ -193,3 +74,111 @@ put_one f left less count capacity others next le fits =
     let size = length-append (map f (range_with_len left (count - left))) others in
     let put = length-map-range_with_len f left (count - left) in
     rw (one, next) (take_all capacity (f less ∷ (map f (range_with_len left (count - left)) ++ others)) (omega (arith, size, put)))
+
+module _ (rows : List Row) where
+  pub length-moments : (records : List Record) (bytes : List ℕ) → length (moments_in rows records bytes) ≡ length records
+  unfolding moments_in
+  length-moments [] bytes = refl
+  length-moments (newest ∷ older) bytes = ap suc (length-moments older (drop (entry_count newest) bytes))
+
+  pub counts-moments : (records : List Record) (bytes : List ℕ) → sum_by byte_count (moments_in rows records bytes) ≡ sum_by entry_count records
+  unfolding moments_in
+  counts-moments [] bytes = refl
+  counts-moments (newest ∷ older) bytes =
+      sum_by-cons byte_count (moment_of newest (row_of rows newest) (take (entry_count newest) bytes)) (moments_in rows older (drop (entry_count newest) bytes))
+      ∙ ap (λ n. entry_count newest + n) (counts-moments older (drop (entry_count newest) bytes))
+      ∙ sym (sum_by-cons entry_count newest older)
+
+  -- one more record, with its bytes
+  pub moments-push : (newest : Record) (older : List Record) (bytes others : List ℕ) → length bytes ≡ entry_count newest
+      → moments_in rows (newest ∷ older) (bytes ++ others) ≡ moment_of newest (row_of rows newest) bytes ∷ moments_in rows older others
+  unfolding moments_in
+  moments-push newest older bytes others size =
+      ap (λ (z : List ℕ). moment_of newest (row_of rows newest) z ∷ moments_in rows older (drop (entry_count newest) (bytes ++ others))) (take_at bytes others (entry_count newest) size)
+      ∙ ap (λ (z : List ℕ). moment_of newest (row_of rows newest) bytes ∷ moments_in rows older z) (drop_at bytes others (entry_count newest) size)
+
+  -- the newest records, with their bytes
+  moments-take : (n : ℕ) (records : List Record) (bytes : List ℕ)
+      → moments_in rows (take n records) (take (sum_by entry_count (take n records)) bytes) ≡ take n (moments_in rows records bytes)
+  unfolding moments_in
+  moments-take zero records bytes = refl
+  moments-take (suc n) [] bytes = refl
+  moments-take (suc n) (newest ∷ older) bytes =
+      let count = entry_count newest in
+      let rest = sum_by entry_count (take n older) in
+      ap (λ s. moment_of newest (row_of rows newest) (take count (take s bytes)) ∷ moments_in rows (take n older) (drop count (take s bytes))) (sum_by-cons entry_count newest (take n older))
+      ∙ ap (λ (z : List ℕ). moment_of newest (row_of rows newest) z ∷ moments_in rows (take n older) (drop count (take (count + rest) bytes))) (take-take count (count + rest) bytes (omega arith))
+      ∙ ap (λ (z : List ℕ). moment_of newest (row_of rows newest) (take count bytes) ∷ moments_in rows (take n older) z) (drop-take count rest bytes)
+      ∙ ap (λ (z : List Kept). moment_of newest (row_of rows newest) (take count bytes) ∷ z) (moments-take n older (drop count bytes))
+
+  pub record Forgotten (records : List Record) (bytes : List ℕ) (last : Record) : Type 0 where
+    pub moments : moments_in rows (take (length records - 1) records) (take (length bytes - entry_count last) bytes) ≡ take (length (moments_in rows records bytes) - 1) (moments_in rows records bytes)
+    pub filled : length (take (length bytes - entry_count last) bytes) ≡ sum_by entry_count (take (length records - 1) records)
+    pub fits : entry_count last ≤ length bytes
+
+  pub forgotten : (records : List Record) (bytes : List ℕ) (last : Record) → length bytes ≡ sum_by entry_count records
+      → slice_get records (length records - 1) ≡ Some last → Forgotten records bytes last
+  forgotten records bytes last filled is =
+      let i = length records - 1 in
+      let less : i < length records = slice_get_within records i last is in
+      let ends : sum_by entry_count (take i records) + entry_count last ≡ sum_by entry_count records = last_ends records last i (omega arith) is in
+      let size : length bytes - entry_count last ≡ sum_by entry_count (take i records) = omega arith in
+      record {
+        moments = ap (λ n. moments_in rows (take i records) (take n bytes)) size ∙ moments-take i records bytes
+            ∙ ap (λ n. take (n - 1) (moments_in rows records bytes)) (sym (length-moments records bytes));
+        filled = ap (λ n. length (take n bytes)) size ∙ length-take-le (sum_by entry_count (take i records)) bytes (omega arith);
+        fits = omega arith;
+      }
+
+  -- a part of a record that does not lie in its bytes
+  pub at_moment : {X : Type 0} (f : Kept → X) (g : Record → X) → ((r : Record) (bytes : List ℕ) → f (moment_of r (row_of rows r) bytes) ≡ g r)
+      → (records : List Record) (bytes : List ℕ) (i : ℕ) (r : Record) → slice_get records i ≡ Some r
+      → option_map f (slice_get (moments_in rows records bytes) i) ≡ Some (g r)
+  unfolding moments_in
+  at_moment f g same [] bytes i r is = cc
+  at_moment f g same (newest ∷ older) bytes zero r is =
+      let here : newest ≡ r = cc in
+      ap Some (same newest (take (entry_count newest) bytes) ∙ ap g here)
+  at_moment f g same (newest ∷ older) bytes (suc i) r is = at_moment f g same older (drop (entry_count newest) bytes) i r is
+
+  -- one moment further back
+  pub next_back : (records : List Record) (bytes : List ℕ) (back i begin at byte next : ℕ) (r : Record) → i < back → slice_get records i ≡ Some r
+      → next ≡ cond (covers r.span at) (slice_index bytes (begin + distance_to r.span at)) byte
+      → byte_back (take (back - i) (moments_in rows (drop i records) (drop begin bytes))) at byte
+      ≡ byte_back (take (back - (i + 1)) (moments_in rows (drop (i + 1) records) (drop (begin + entry_count r) bytes))) at next
+  unfolding byte_back moments_in
+  next_back records bytes back i begin at byte next r less is found =
+      let k = back - (i + 1) in
+      let one : back - i ≡ suc k = omega arith in
+      let rest : drop i records ≡ r ∷ drop (i + 1) records =
+      drop_more records i r (slice_get_within records i r is) ∙ ap (λ first. first ∷ drop (i + 1) records) (get_or_from_slice_get records i r r is) in
+      let kept = take (entry_count r) (drop begin bytes) in
+      let same : cond (covers r.span at) (slice_index kept (distance_to r.span at)) byte ≡ next =
+      kept_byte bytes r begin at byte (covers r.span at) refl ∙ sym found in
+      rw (one, rest) (ap (λ (z : List ℕ). byte_back (take k (moments_in rows (drop (i + 1) records) z)) at (cond (covers r.span at) (slice_index kept (distance_to r.span at)) byte)) (drop-drop (entry_count r) begin bytes)
+      ∙ ap (λ b. byte_back (take k (moments_in rows (drop (i + 1) records) (drop (begin + entry_count r) bytes))) at b) same)
+
+  -- what the two stacks hold
+  pub length-held : (records : List Record) (bytes : List ℕ) (held : List Kept) → moments_in rows records bytes ≡ held → length records ≡ length held
+  length-held records bytes held is = sym (length-moments records bytes) ∙ ap (λ (z : List Kept). length z) is
+
+  pub bytes-held : (records : Buffer Record) (bytes : Buffer ℕ) (held : List Kept) → moments_in rows records.items bytes.items ≡ held
+      → AreRings records bytes → sum_by byte_count held ≡ length bytes.items
+  bytes-held records bytes held is rings =
+      ap (λ (z : List Kept). sum_by byte_count z) (sym is) ∙ counts-moments records.items bytes.items ∙ sym rings.filled
+
+  pub forgotten-rings : (records : Buffer Record) (bytes : Buffer ℕ) (last : Record) → AreRings records bytes
+      → slice_get records.items (length records.items - 1) ≡ Some last
+      → AreRings (buffer (take (length records.items - 1) records.items) records.capacity)
+      (buffer (take (length bytes.items - entry_count last) bytes.items) bytes.capacity)
+  forgotten-rings records bytes last rings is =
+      let done = forgotten records.items bytes.items last rings.filled is in
+      let few : length records.items ≤ 65536 = rings.few in
+      let small : length bytes.items ≤ 16777216 = rings.small in
+      record {
+        moments = rings.moments;
+        room = rings.room;
+        few = rw (length-take (length records.items - 1) records.items) (omega arith);
+        small = rw (length-take (length bytes.items - entry_count last) bytes.items) (omega arith);
+        filled = done.filled;
+      }

@@ -1,60 +1,52 @@
 -- One moment more is kept.
-use Rattle.uxn_undo.proofs.Common.{◌≡◌, ℕ, zero, suc, ◌+◌, ◌<◌, ◌≤◌, List, ◌∷◌, ◌++◌, length, take, sym, ap, ◌∙◌, arith, sum_by, length-take}
-use Rattle.uxn_undo.proofs.Common.{length-append, length-map-range_with_len, sum_by-cons, Buffer, buffer, span_bytes_at, Kept, byte_count}
-use Rattle.uxn_undo.proofs.Common.{most_moments, most_bytes, HoldsMoments, RingEntry, with_bytes, entry_count, AreRings}
-use Rattle.uxn_undo.specs.Rings.{joined_entries}
-use Rattle.uxn_undo.specs.Room.{MakesRoom}
-use Rattle.uxn_undo.proofs.Joined.{length-held, bytes-held, joined_entries-push}
+use Rattle.uxn_undo.proofs.Common.{◌≡◌, ℕ, ◌+◌, ◌-◌, ◌<◌, ◌≤◌, List, ◌∷◌, ◌++◌, length, sym, ap, ◌∙◌, arith, sum_by, length-append}
+use Rattle.uxn_undo.proofs.Common.{length-map-range_with_len, slice_index_or, sum_by-cons, Buffer, buffer, span_bytes_at, Kept, byte_count}
+use Rattle.uxn_undo.proofs.Common.{most_bytes, Row, Record, entry_count, moment_of, moments_in, no_row, AreRings}
+use Rattle.uxn_undo.specs.Kept.{held_of, holding}
+use Rattle.uxn_undo.specs.Slots.{InOrder}
+use Rattle.uxn_undo.proofs.Holding.{IsHeld, is-held, held-next}
+use Rattle.uxn_undo.proofs.Joined.{length-held, bytes-held}
+use Rattle.uxn_undo.proofs.Slots.{SameBut, put_moment}
 
--- with more moments there is none
-fuller : (before held : List Kept) (kept : Kept) → MakesRoom (byte_count kept) before held → (more : ℕ) → suc (length held) < more
-    → more ≤ suc (length before) → more ≤ most_moments → most_bytes < sum_by byte_count (take more (kept ∷ before))
-fuller before held kept room zero above within few = absurd (omega arith)
-fuller before held kept room (suc more) above within few =
-    let full : most_bytes < sum_by byte_count (take more before) + byte_count kept = room.greatest more (omega arith) (omega arith) (omega arith) in
-    omega (arith, full, sum_by-cons byte_count kept (take more before))
+module _ (rows : List Row) (records : Buffer Record) (bytes : Buffer ℕ) (before held : List Kept) (count : ℕ)
+    (is : moments_in rows records.items bytes.items ≡ held) (lie : AreRings records bytes) (left : held ≡ held_of 65535 (most_bytes - count) before)
+    (short : count < 65536) where
+  -- there is room
+  pub record HasRoom : Type 0 where
+    pub few : length records.items < 65536
+    pub room : length bytes.items + count ≤ bytes.capacity
 
--- where there is room, one moment more is held
-room_taken : (before held : List Kept) (kept : Kept) → MakesRoom (byte_count kept) before held → HoldsMoments (kept ∷ before) (kept ∷ held)
-room_taken before held kept room =
-    let size : length held ≤ length before = omega (arith, ap (λ (z : List Kept). length z) room.newest, length-take (length held) before) in
-    let moments : length held < 65536 = room.moments in
-    let bytes : sum_by byte_count held + byte_count kept ≤ 16777216 = room.bytes in
-    record {
-      number = record {
-        within = omega arith;
-        moments = omega arith;
-        bytes = rw (← room.newest) (omega (arith, bytes, sum_by-cons byte_count kept held));
-        greatest = fuller before held kept room;
-      };
-      newest = ap (λ (z : List Kept). kept ∷ z) room.newest;
-    }
+  pub has-room : HasRoom
+  has-room =
+      let fits : IsHeld 65535 (most_bytes - count) before held = rw left (is-held 65535 (most_bytes - count) before) in
+      let size : length records.items ≡ length held = length-held rows records.items bytes.items held is in
+      let filled : sum_by byte_count held ≡ length bytes.items = bytes-held rows records bytes held is lie in
+      record { few = omega (arith, fits.few); room = omega (arith, fits.small, lie.room) }
 
-pub record Keeps (records : Buffer RingEntry) (bytes : Buffer ℕ) (before : List Kept) (r : RingEntry) (kept : Kept) : Type 0 where
-  pub room : length records.items < records.capacity
-  pub rings : AreRings (buffer (r ∷ records.items) records.capacity) (buffer (kept.bytes ++ bytes.items) bytes.capacity)
-  pub holds : HoldsMoments (kept ∷ before) (joined_entries (r ∷ records.items) (kept.bytes ++ bytes.items))
+  -- and one more is put there
+  pub record Keeps (now : List Row) (newest : Record) (kept : Kept) : Type 0 where
+    pub rings : AreRings (buffer (newest ∷ records.items) records.capacity) (buffer (kept.bytes ++ bytes.items) bytes.capacity)
+    pub holds : moments_in now (newest ∷ records.items) (kept.bytes ++ bytes.items) ≡ holding (kept ∷ before)
 
-pub keeps : (records : Buffer RingEntry) (bytes : Buffer ℕ) (before held : List Kept) (r : RingEntry) (memory : List ℕ)
-    → joined_entries records.items bytes.items ≡ held → AreRings records bytes → MakesRoom (entry_count r) before held
-    → Keeps records bytes before r (with_bytes r (span_bytes_at r.span memory))
-keeps records bytes before held r memory is rings room =
-    let kept = with_bytes r (span_bytes_at r.span memory) in
-    let size : length records.items ≡ length held = length-held records.items bytes.items held is in
-    let filled : sum_by byte_count held ≡ length bytes.items = bytes-held records bytes held is rings in
-    let moments : length held < 65536 = room.moments in
-    let small : sum_by byte_count held + entry_count r ≤ 16777216 = room.bytes in
-    let capacity : records.capacity ≡ 65536 = rings.moments in
-    let count : length kept.bytes ≡ entry_count r = length-map-range_with_len _ 0 r.span.count in
-    let long = length-append kept.bytes bytes.items in
-    record {
-      room = omega arith;
-      rings = record {
-        moments = rings.moments;
-        room = rings.room;
-        few = omega arith;
-        small = omega (arith, long);
-        filled = long ∙ sym (sum_by-cons entry_count r records.items ∙ ap (λ n. entry_count r + n) (sym rings.filled) ∙ ap (λ n. n + length bytes.items) (sym count));
-      };
-      holds = rw (joined_entries-push r records.items kept.bytes bytes.items count, is) (room_taken before held kept room);
-    }
+  pub keeps : (size : ℕ) (now : List Row) (newest : Record) (row : Row) (memory : List ℕ) → entry_count newest ≡ count
+      → SameBut size newest.slot rows now → slice_index_or now newest.slot no_row ≡ row → newest.slot < 65536 → InOrder size newest.slot records.items
+      → Keeps now newest (moment_of newest row (span_bytes_at newest.span memory))
+  keeps size now newest row memory counts same here small order =
+      let kept = moment_of newest row (span_bytes_at newest.span memory) in
+      let has = has-room in
+      let put : length kept.bytes ≡ entry_count newest = length-map-range_with_len _ 0 newest.span.count in
+      let long = length-append kept.bytes bytes.items in
+      let fits : byte_count kept ≤ most_bytes = omega arith in
+      record {
+        rings = record {
+          moments = lie.moments;
+          room = lie.room;
+          few = omega (arith, has.few);
+          small = omega (arith, long, has.room, lie.room);
+          filled = long ∙ sym (sum_by-cons entry_count newest records.items ∙ ap (λ n. entry_count newest + n) (sym lie.filled)
+              ∙ ap (λ n. n + length bytes.items) (sym put));
+        };
+        holds = put_moment size newest row records.items kept.bytes bytes.items rows now same here small has.few order put
+            ∙ ap (λ (z : List Kept). kept ∷ z) (is ∙ left ∙ ap (λ n. held_of 65535 (most_bytes - n) before) (sym counts))
+            ∙ sym (held-next 65535 most_bytes kept before fits);
+      }

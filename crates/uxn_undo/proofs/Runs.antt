@@ -14,11 +14,11 @@ record Joined (first more : List GivenMoments) (middle last : List ℕ) : Type 0
   row : InRow (first ++ more) last
   begins : memory_next (first ++ more) last ≡ memory_next first middle
 
-joined_entries : (first more : List GivenMoments) (middle last : List ℕ) → InRow first middle → memory_next more last ≡ middle → InRow more last
+in-row-joined : (first more : List GivenMoments) (middle last : List ℕ) → InRow first middle → memory_next more last ≡ middle → InRow more last
     → Joined first more middle last
-joined_entries [] more middle last one same two = record { row = two; begins = same }
-joined_entries (given ∷ first) more middle last one same two =
-    let rest = joined_entries first more middle last one.1 same two in
+in-row-joined [] more middle last one same two = record { row = two; begins = same }
+in-row-joined (given ∷ first) more middle last one same two =
+    let rest = in-row-joined first more middle last one.1 same two in
     record { row = (rw rest.begins one.0, rest.row); begins = refl }
 
 -- a part of a run, from a memory on
@@ -30,7 +30,7 @@ record RunsOn (memory : List ℕ) (trace : Trace) : Type 0 where
 followed : (memory : List ℕ) (first : Trace) (rest : State → Trace) → RunsOn memory first → RunsOn first.last.core.memory (rest first.last)
     → RunsOn memory (followed_by first rest)
 followed memory first rest one two =
-    let both = joined_entries (map given_at first.moments) (map given_at (rest first.last).moments) first.last.core.memory (rest first.last).last.core.memory
+    let both = in-row-joined (map given_at first.moments) (map given_at (rest first.last).moments) first.last.core.memory (rest first.last).last.core.memory
     one.row two.begins two.row in
     let split = map-append given_at first.moments (rest first.last).moments in
     record {

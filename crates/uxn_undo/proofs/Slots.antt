@@ -1,12 +1,9 @@
 -- The rows of the moments that are held stay where they are when the next one is put.
-use Rattle.uxn_undo.proofs.Common.{◌≡◌, ◌≢◌, ℕ, zero, suc, ◌+◌, ◌-◌, ◌%◌, ◌<◌, ◌≤◌, ◌==◌, cond, List, [], ◌∷◌, length, take, Some, None, refl, sym}
-use Rattle.uxn_undo.proofs.Common.{ap, ◌∙◌, arith, map, slice_get, slice_index_or, sum_by, Option, option_map, nat_tests, length-map, length-take}
-use Rattle.uxn_undo.proofs.Common.{sum_by-cons, Row, Record, Kept, RingEntry, entry_count, slot_entry, entry_in_rows, row_in, no_row}
-use Rattle.std.proofs.lemmas.List.{take-map}
-use Rattle.std.proofs.lemmas.Option.{slice_get-map}
-use Rattle.uxn_undo.specs.Rings.{joined_entries}
+use Rattle.uxn_undo.proofs.Common.{◌≡◌, ◌≢◌, ℕ, zero, suc, ◌+◌, ◌%◌, ◌<◌, ◌≤◌, ◌==◌, cond, List, [], ◌∷◌, ◌++◌, length, take, drop, Some, None}
+use Rattle.uxn_undo.proofs.Common.{refl, sym, ap, ◌∙◌, arith, slice_get, slice_index_or, sum_by, Option, option_map, nat_tests, length-take}
+use Rattle.uxn_undo.proofs.Common.{sum_by-cons, Row, Record, Kept, entry_count, moment_of, moments_in, row_in, row_of, no_row}
 use Rattle.uxn_undo.specs.Slots.{slot_before, InOrder, AreSlots}
-use Rattle.uxn_undo.proofs.Joined.{length-held}
+use Rattle.uxn_undo.proofs.Joined.{moments-push}
 
 -- fewer records
 pub in_order-take : (n size next : ℕ) (records : List Record) → InOrder size next records → InOrder size next (take n records)
@@ -26,24 +23,18 @@ abbrev pub SameBut : ℕ → ℕ → List Row → List Row → Type 0
 SameBut size slot before now = (k : ℕ) (d : Row) → k < size → k ≢ slot → slice_index_or now k d ≡ slice_index_or before k d
 
 -- the slot of a record is not the next one, so its row stays
-pub same_entries : (size slot next gap : ℕ) (records : List Record) (before now : List Row) → SameBut size slot before now → next < 65536
-    → slot ≡ (next + gap) % 65536 → gap + length records < 65536 → InOrder size next records → map (entry_in_rows now) records ≡ map (entry_in_rows before) records
-same_entries size slot next gap [] before now same small here few order = refl
-same_entries size slot next gap (newest ∷ older) before now same small here few order =
+same_rows : (size slot next gap : ℕ) (records : List Record) (bytes : List ℕ) (before now : List Row) → SameBut size slot before now → next < 65536
+    → slot ≡ (next + gap) % 65536 → gap + length records < 65536 → InOrder size next records → moments_in now records bytes ≡ moments_in before records bytes
+unfolding moments_in
+same_rows size slot next gap [] bytes before now same small here few order = refl
+same_rows size slot next gap (newest ∷ older) bytes before now same small here few order =
     let at : newest.slot ≡ (next + 65535) % 65536 = order.0 in
     let fewer : gap + suc (length older) < 65536 = few in
     let other : newest.slot ≢ slot = λ e. absurd (omega arith) in
-    let rest : map (entry_in_rows now) older ≡ map (entry_in_rows before) older =
-    same_entries size slot (slot_before next) (gap + 1) older before now same (omega arith) (omega arith) (omega arith) order.3 in
-    ap (λ row. slot_entry newest row ∷ map (entry_in_rows now) older) (same newest.slot no_row order.1 other)
-    ∙ ap (λ (z : List RingEntry). entry_in_rows before newest ∷ z) rest
-
--- the last record with its row, if there is one
-pub last_entry : (rows : List Row) (records : List Record) (last : Option Record) → last ≡ slice_get records (length records - 1)
-    → slice_get (map (entry_in_rows rows) records) (length (map (entry_in_rows rows) records) - 1) ≡ option_map (entry_in_rows rows) last
-last_entry rows records last is =
-    ap (λ n. slice_get (map (entry_in_rows rows) records) (n - 1)) (length-map records (entry_in_rows rows))
-    ∙ slice_get-map (entry_in_rows rows) records (length records - 1) ∙ ap (λ z. option_map (entry_in_rows rows) z) (sym is)
+    let rest = drop (entry_count newest) bytes in
+    ap (λ row. moment_of newest row (take (entry_count newest) bytes) ∷ moments_in now older rest) (same newest.slot no_row order.1 other)
+    ∙ ap (λ (z : List Kept). moment_of newest (row_of before newest) (take (entry_count newest) bytes) ∷ z)
+    (same_rows size slot (slot_before next) (gap + 1) older rest before now same (omega arith) (omega arith) (omega arith) order.3)
 
 pub fewer_slots : (n size room next : ℕ) (records : List Record) → 0 < n → AreSlots size room next records → AreSlots size room next (take n records)
 fewer_slots n size room next records some slots = record {
@@ -55,26 +46,10 @@ fewer_slots n size room next records some slots = record {
 }
 
 -- one moment alone keeps few bytes
-pub alone-small : (size next : ℕ) (rows : List Row) (records : List Record) → InOrder size next records → length records ≤ 1
-    → sum_by entry_count (map (entry_in_rows rows) records) < 65536
-alone-small size next rows [] order few = omega arith
-alone-small size next rows (newest ∷ []) order few = omega (arith, sum_by-cons entry_count (entry_in_rows rows newest) [], order.2)
-alone-small size next rows (newest ∷ next_one ∷ older) order few = absurd (omega (arith, few))
-
-pub fewer_entries : (rows : List Row) (records : List Record)
-    → map (entry_in_rows rows) (take (length records - 1) records) ≡ take (length (map (entry_in_rows rows) records) - 1) (map (entry_in_rows rows) records)
-fewer_entries rows records =
-    sym (ap (λ n. take (n - 1) (map (entry_in_rows rows) records)) (length-map records (entry_in_rows rows)) ∙ take-map (entry_in_rows rows) (length records - 1) records)
-
--- how many moments there are
-pub length-records : (rows : List Row) (records : List Record) (bytes : List ℕ) (held : List Kept) → joined_entries (map (entry_in_rows rows) records) bytes ≡ held
-    → length records ≡ length held
-length-records rows records bytes held is = sym (length-map records (entry_in_rows rows)) ∙ length-held (map (entry_in_rows rows) records) bytes held is
-
--- a record with its row
-pub entry_at : (rows : List Row) (records : List Record) (i : ℕ) (r : Record) → slice_get records i ≡ Some r
-    → slice_get (map (entry_in_rows rows) records) i ≡ Some (entry_in_rows rows r)
-entry_at rows records i r is = slice_get-map (entry_in_rows rows) records i ∙ ap (λ z. option_map (entry_in_rows rows) z) is
+pub alone-small : (size next : ℕ) (records : List Record) → InOrder size next records → length records ≤ 1 → sum_by entry_count records < 65536
+alone-small size next [] order few = omega arith
+alone-small size next (newest ∷ []) order few = omega (arith, sum_by-cons entry_count newest [], order.2)
+alone-small size next (newest ∷ next_one ∷ older) order few = absurd (omega (arith, few))
 
 pub slot_within : (size next : ℕ) (records : List Record) (i : ℕ) (r : Record) → InOrder size next records → slice_get records i ≡ Some r → r.slot < size
 slot_within size next [] i r order is = cc
@@ -90,14 +65,15 @@ part_of part (Some k) row is = let same : row_in k ≡ row = cc in ap (λ (z : R
 part_of part None row is = cc
 
 -- one record more, whose row was put into the next slot
-pub put_entries : (size slot : ℕ) (newest : Record) (row : Row) (records : List Record) (before now : List Row) → SameBut size slot before now
-    → slice_index_or now slot no_row ≡ row → newest.slot ≡ slot → slot < 65536 → length records < 65536 → InOrder size slot records
-    → map (entry_in_rows now) (newest ∷ records) ≡ slot_entry newest row ∷ map (entry_in_rows before) records
-put_entries size slot newest row records before now same here is small few order =
-    ap (λ k. slot_entry newest (slice_index_or now k no_row) ∷ map (entry_in_rows now) records) is
-    ∙ ap (λ (z : Row). slot_entry newest z ∷ map (entry_in_rows now) records) here
-    ∙ ap (λ (z : List RingEntry). slot_entry newest row ∷ z)
-    (same_entries size slot slot 0 records before now same small (omega arith) (omega arith) order)
+pub put_moment : (size : ℕ) (newest : Record) (row : Row) (records : List Record) (bytes others : List ℕ) (before now : List Row)
+    → SameBut size newest.slot before now → slice_index_or now newest.slot no_row ≡ row → newest.slot < 65536 → length records < 65536
+    → InOrder size newest.slot records → length bytes ≡ entry_count newest
+    → moments_in now (newest ∷ records) (bytes ++ others) ≡ moment_of newest row bytes ∷ moments_in before records others
+put_moment size newest row records bytes others before now same here small few order count =
+    moments-push now newest records bytes others count
+    ∙ ap (λ (z : Row). moment_of newest z bytes ∷ moments_in now records others) here
+    ∙ ap (λ (z : List Kept). moment_of newest row bytes ∷ z)
+    (same_rows size newest.slot newest.slot 0 records others before now same small (omega arith) (omega arith) order)
 
 pub put_slots : (size room slot more large next : ℕ) (newest : Record) (records : List Record) → AreSlots size room slot records → newest.slot ≡ slot
     → slot < 65536 → newest.span.count < 65536 → more ≡ cond (slot == size) (size + 1) size → 65536 ≤ large → next ≡ (slot + 1) % 65536

@@ -1,6 +1,5 @@
 -- What is kept of the moments of a run, the newest first (profile).
-use Rattle.std.specs.Prelude.{◌≡◌, ℕ, zero, suc, ◌-◌, ◌<◌, ◌≤◌, nat_le, if◌then◌else◌, List, []}
-use Rattle.std.specs.Prelude.{◌∷◌, length, take, sum_by, slice_index}
+use Rattle.std.specs.Prelude.{ℕ, zero, suc, ◌-◌, nat_le, if◌then◌else◌, List, [], ◌∷◌, slice_index}
 use Rattle.uxn_stacks.specs.Cells.{Cells}
 use Rattle.uxn_opcodes.specs.declared.Core.{Core}
 use Rattle.uxn_undo.specs.declared.span.Span.{Span}
@@ -37,26 +36,16 @@ most_moments = 65536
 abbrev pub most_bytes : ℕ
 most_bytes = 16777216
 
--- so many of the newest of these moments fit where there is room for so many and so many bytes: the greatest number that does
-pub record Fits (moments_left room : ℕ) (given : List Kept) (number : ℕ) : Type 0 where
-  pub within : number ≤ length given
-  pub moments : number ≤ moments_left
-  pub bytes : sum_by byte_count (take number given) ≤ room
-  pub greatest : (more : ℕ) → number < more → more ≤ length given → more ≤ moments_left → room < sum_by byte_count (take more given)
+-- the newest of these moments, where there is room for so many and so many bytes: moments are held from the newest on, until one more
+-- is one too many, or its bytes are
+unfoldable pub held_of : ℕ → ℕ → List Kept → List Kept
+held_of zero room given = []
+held_of (suc left) room [] = []
+held_of (suc left) room (kept ∷ older) =
+    if nat_le (byte_count kept) room then kept ∷ held_of left (room - byte_count kept) older else []
 
--- that number: moments are held from the newest on, until one more is one too many, or its bytes are
-unfoldable pub fitting_moments : ℕ → ℕ → List Kept → ℕ
-fitting_moments zero room given = 0
-fitting_moments (suc left) room [] = 0
-fitting_moments (suc left) room (kept ∷ older) = if nat_le (byte_count kept) room then suc (fitting_moments left (room - byte_count kept) older) else 0
-
-abbrev pub number_held : List Kept → ℕ
-number_held given = fitting_moments most_moments most_bytes given
-
--- the newest of the given moments are held, as many as there is room for
-pub record HoldsMoments (given held : List Kept) : Type 0 where
-  pub number : Fits most_moments most_bytes given (length held)
-  pub newest : held ≡ take (length held) given
+abbrev pub holding : List Kept → List Kept
+holding given = held_of most_moments most_bytes given
 
 -- the byte at an address before a moment's instruction, where it is this byte after it
 abbrev pub byte_before : Kept → ℕ → ℕ → ℕ

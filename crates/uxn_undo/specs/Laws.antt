@@ -4,7 +4,7 @@ use Rattle.uxn_opcodes.specs.declared.Core.{Core}
 use Rattle.uxn_undo.specs.declared.span.Span.{Span}
 use Rattle.uxn_undo.specs.Spans.{covers}
 use Rattle.uxn_undo.specs.Changes.{instruction_span}
-use Rattle.uxn_undo.specs.Kept.{Kept, kept_at, number_held, HoldsMoments, byte_back}
+use Rattle.uxn_undo.specs.Kept.{Kept, kept_at, holding, byte_back}
 
 -- a moment of a run: the machine, and the bytes stored in its ports
 pub record GivenMoments : Type 0 where
@@ -26,13 +26,12 @@ Follow (given ∷ older) last = DiffersWithin (instruction_span given.core given
 
 -- what holds one moment after another holds the newest of all of them, as many as there is room for
 pub record HoldingLaw : Type 0 where
-  pub none : HoldsMoments [] []
-  pub one_more : (given held now : List Kept) (kept : Kept) → HoldsMoments given held → HoldsMoments (kept ∷ held) now → HoldsMoments (kept ∷ given) now
-  pub number : (given held : List Kept) → HoldsMoments given held → length held ≡ number_held given
-  pub newest : (given : List Kept) → HoldsMoments given (take (number_held given) given)
+  pub none : holding [] ≡ []
+  pub one_more : (given : List Kept) (kept : Kept) → holding (kept ∷ holding given) ≡ holding (kept ∷ given)
+  pub newest : (given : List Kept) → holding given ≡ take (length (holding given)) given
 
 -- where moments in a row are held, going back gives the byte of the memory of the moment gone to
 abbrev pub GoingBackLaw : Type 0
-GoingBackLaw = (given : List GivenMoments) (held : List Kept) (last : Core) (moment : GivenMoments) (back at : ℕ)
-    → HoldsMoments (map kept_of given) held → Follow given last.memory → back < length held → slice_get given back ≡ Some moment → at < 65536
-    → byte_back (take (back + 1) held) at (slice_index last.memory at) ≡ slice_index moment.core.memory at
+GoingBackLaw = (given : List GivenMoments) (last : Core) (moment : GivenMoments) (back at : ℕ)
+    → Follow given last.memory → back < length (holding (map kept_of given)) → slice_get given back ≡ Some moment → at < 65536
+    → byte_back (take (back + 1) (holding (map kept_of given))) at (slice_index last.memory at) ≡ slice_index moment.core.memory at

@@ -1,9 +1,8 @@
 pub mod Spans
 pub mod Changes
 pub mod Kept
-pub mod Rings
 pub mod Slots
-pub mod Room
+pub mod Rings
 pub mod Laws
 pub mod Row
 pub mod Runs

@@ -5,7 +5,6 @@ use Rattle.uxn_opcodes.specs.declared.Core.{Core}
 use Rattle.uxn_undo.specs.declared.row.Row.{Row}
 use Rattle.uxn_undo.specs.declared.undo.Record.{Record}
 use Rattle.uxn_undo.specs.Kept.{Kept}
-use Rattle.uxn_undo.specs.Rings.{RingEntry}
 
 abbrev pub slot_row : Core → List ℕ → Row
 slot_row core stored = record { working = core.working; returns = core.returns; stored = stored }
@@ -13,18 +12,9 @@ slot_row core stored = record { working = core.working; returns = core.returns; 
 abbrev pub no_row : Row
 no_row = record { working = new_ring; returns = new_ring; stored = [] }
 
--- a record with the row in its slot
-abbrev pub slot_entry : Record → Row → RingEntry
-slot_entry entry row = record {
-  at = entry.at;
-  working = row.working;
-  returns = row.returns;
-  stored = row.stored;
-  span = entry.span;
-}
-
-abbrev pub entry_in_rows : List Row → Record → RingEntry
-entry_in_rows rows entry = slot_entry entry (slice_index_or rows entry.slot no_row)
+-- the row in the slot of a record
+abbrev pub row_of : List Row → Record → Row
+row_of rows entry = slice_index_or rows entry.slot no_row
 
 -- the row of a moment
 abbrev pub row_in : Kept → Row

@@ -2,6 +2,9 @@
 
 ghost use Rattle.std.specs.Prelude.{◌≡◌, ◌<◌, if◌then◌else◌, Some, None};
 ghost use Rattle.uxn_undo.specs.Spans.{address_after_span, covers, distance_to, no_span, span_in_bank, span_in_page};
+ghost use Rattle.uxn_undo.specs.Changes.{span_of_range};
+
+use system_port::BankRange;
 
 /// So many addresses from one on. They wrap within the zero page or within the bank.
 #[derive(Clone, Copy)]
@@ -41,6 +44,17 @@ impl Span {
             first,
             count,
             in_zero_page: false,
+        }
+    }
+
+    // The part of a range of memory that lies in bank 0.
+    pub(crate) fn of_range(range: BankRange) -> Span
+        ensures { result ≡ span_of_range range }
+    {
+        if range.bank == 0 {
+            Span::in_bank(range.first, range.count)
+        } else {
+            Span::none()
         }
     }
 

@@ -26,14 +26,14 @@ ghost use Rattle.std.specs.Prelude.{
 ghost use Rattle.circular_buffer.specs.Buffer.{buffer};
 ghost use Rattle.uxn_undo.specs.Spans.{span_bytes_at};
 ghost use Rattle.uxn_undo.specs.Kept.{
-  HoldsMoments,
   byte_back,
   byte_count,
+  held_of,
+  holding,
   kept_at,
   most_bytes,
   most_moments,
 };
-ghost use Rattle.uxn_undo.specs.Room.{MakesRoom};
 ghost use Rattle.uxn_undo.specs.Slots.{row_in};
 ghost use Rattle.uxn_undo.specs.Laws.{GoingBackLaw, HoldingLaw};
 
@@ -72,24 +72,23 @@ pub struct Undo {
 }
 
 impl Model for Undo {
-    ghost use Rattle.std.specs.Prelude.{List, map, vec_len, vec_capacity};
-    ghost use Rattle.circular_buffer.specs.Buffer.{buffer};
+    ghost use Rattle.std.specs.Prelude.{List, vec_len, vec_capacity};
     ghost use Rattle.uxn_undo.specs.Kept.{Kept};
-    ghost use Rattle.uxn_undo.specs.Rings.{joined_entries, AreRings};
-    ghost use Rattle.uxn_undo.specs.Slots.{entry_in_rows, AreSlots};
+    ghost use Rattle.uxn_undo.specs.Rings.{moments_in, AreRings};
+    ghost use Rattle.uxn_undo.specs.Slots.{AreSlots};
 
     ghost Value = { List Kept };
 
-    ghost view = { λ u. joined_entries (map (entry_in_rows u.rows.items) u.records.items) u.bytes.items };
+    ghost view = { λ u. moments_in u.rows.items u.records.items u.bytes.items };
 
-    ghost invariant = { λ u. AreRings (buffer (map (entry_in_rows u.rows.items) u.records.items) u.records.capacity) u.bytes
+    ghost invariant = { λ u. AreRings u.records u.bytes
         × AreSlots (vec_len u.rows) (vec_capacity u.rows) u.next u.records.items };
 }
 
 impl Undo {
     /// No moment is kept. This is the one call of this crate that takes memory, all that it will use; none of it is written yet: where
     /// no moment is held no slot is.
-    #[tactic(auto, unfolding(crate::specs::Rings::joined_entries))]
+    #[tactic(auto, unfolding(crate::specs::Rings::moments_in))]
     pub fn new(alloc: Global) -> Result<Undo, AllocError>
         ensures { IfOk result (λ undo. undo ≡ []) }
     {
@@ -106,7 +105,7 @@ impl Undo {
 
     /// Keeps this moment, and drops the oldest ones for which there is no room any more.
     pub fn keep<P: Ports>(&mut self, core: &Core, ports: &P)
-        ensures { HoldsMoments (kept_at core.now (P.stored ports.now) ∷ self.old) self.new }
+        ensures { self.new ≡ holding (kept_at core.now (P.stored ports.now) ∷ self.old) }
     {
         let stored = ports.stored_page();
         let span = instruction_span(core, stored);
@@ -202,7 +201,7 @@ impl Undo {
     // Drops the oldest moments until there is room for one more that keeps so many bytes.
     fn make_room(&mut self, count: usize)
         requires { count < 65536 }
-        ensures { MakesRoom count self.old self.new }
+        ensures { self.new ≡ held_of 65535 (most_bytes - count) self.old }
     {
         while !self.has_room(count) {
             self.forget_oldest();

@@ -1,6 +1,6 @@
 -- What the actions of ports do to a bus.
-use Rattle.std.proofs.Common.{◌≡◌, Bool, true, false, ℕ, List, [], ◌∷◌, slice_index, slice_set, refl, ap, sym, ◌∙◌}
-use Rattle.std.specs.Prelude.{◌==◌, if◌then◌else◌, Option, Result, Ok, Err, OnOk, OnErr, IfErr, is_err}
+use Rattle.std.proofs.Common.{◌≡◌, Bool, true, false, ℕ, List, [], ◌∷◌, slice_set, refl, ap, sym, ◌∙◌, rules}
+use Rattle.std.specs.Prelude.{if◌then◌else◌, Option, Result, Ok, Err, OnOk, OnErr, IfErr, is_err}
 use Rattle.std.specs.Borrow.{MutBor}
 use Rattle.std.proofs.lemmas.List.{append-nil}
 use Rattle.uxn_io_traits.specs.declared.sinks.Failed.{Failed}
@@ -31,10 +31,10 @@ use Rattle.varvara_bus.specs.declared.ports.FileAct.{FileAct}
 use Rattle.varvara_bus.specs.declared.ports.FileNumber.{FileNumber}
 use Rattle.varvara_bus.specs.declared.ports.FileNumber.TheVariants.{First, Second}
 use Rattle.varvara_bus.specs.State.{DeviceState, DevicesRepresent, HasFiles, device_clock, storing}
-use Rattle.varvara_bus.specs.Effect.{action_of, asks_tree, no_effect, act, effect}
+use Rattle.varvara_bus.specs.Effect.{asks_tree, no_effect, act}
 use Rattle.varvara_bus.specs.FileActs.{file_base, file_in, file_action, file_outcome, file_acted}
 use Rattle.varvara_bus.specs.FileCalls.{stop_of, stopped_by_tree, FileAnswers, FileEnded}
-use Rattle.varvara_bus.specs.Bus.{BusModel, AreCutShort, SameBus, Becomes, RepresentsTo, ComesTo, KeepsBus, Leaves, file_held, held, outside_on, Makes, PortWrote, WriteStopped, PortActed, ActEnds, contents_on}
+use Rattle.varvara_bus.specs.Bus.{BusModel, AreCutShort, SameBus, Becomes, RepresentsTo, ComesTo, KeepsBus, Leaves, file_held, held_page, outside_on, Makes, HasActed, HasStopped, ActEnds, contents_on}
 use Rattle.varvara_bus.specs.InstructionLaws.{same-again, makes-both, stops-later}
 use Rattle.varvara_bus.proofs.FileCalls.{files-now}
 
@@ -82,19 +82,12 @@ module _ {T O E : Type 0} (meaning : BusModel T O E) where
       → devices.now.time.frames ≡ before.devices.now.time.frames → device_clock devices.now ≡ device_clock before.devices.now
       → devices.now.root ≡ before.devices.now.root
       → SameBus meaning.tree before (record { devices = devices; tree = before.tree; out = before.out; err = before.err })
-  devices-same before devices borrowed frames clock root = record {
-    borrowed = record { devices = borrowed; tree = refl; out = refl; err = refl };
-    files = record { stays = λ path outside there. there };
-    refusals = λ none. refuses-nothing _;
-    frames = frames;
-    clock = clock;
-    root = root;
-  }
+  devices-same before devices borrowed frames clock root = search (rules, refuses-nothing)
 
   -- a byte was stored in the port, and nothing else was done
   pub record Stored (before now : Bus T O E) (port byte : ℕ) : Type 0 where
     pub devices : Becomes (contents_on meaning.tree) (λ state. storing ((port, byte) ∷ []) state) before now
-    pub held : (other : ℕ) → held now other ≡ (if other == port then byte else held before other)
+    pub page : held_page now ≡ slice_set (held_page before) port byte
     pub files : (number : FileNumber) → file_held number now.devices.now ≡ file_held number before.devices.now
     pub tree : now.tree.now ≡ before.tree.now
     pub out : now.out.now ≡ before.out.now
@@ -104,16 +97,15 @@ module _ {T O E : Type 0} (meaning : BusModel T O E) where
   pub byte_stored : (before : Bus T O E) (devices : MutBor Devices) (port byte : ℕ) → devices.ghost_name ≡ before.devices.ghost_name
       → devices.now ≡ record before.devices.now { page = slice_set before.devices.now.page port byte }
       → ((state : DeviceState) → DevicesRepresent before.devices.now state → DevicesRepresent devices.now (storing ((port, byte) ∷ []) state))
-      → ((other : ℕ) → slice_index devices.now.page other ≡ (if other == port then byte else slice_index before.devices.now.page other))
       → devices.now.time.frames ≡ before.devices.now.time.frames → device_clock devices.now ≡ device_clock before.devices.now
       → devices.now.root ≡ before.devices.now.root
       → Stored before (record { devices = devices; tree = before.tree; out = before.out; err = before.err }) port byte
-  byte_stored before devices port byte borrowed is stands holds frames clock root = record {
+  byte_stored before devices port byte borrowed is stands frames clock root = record {
     devices = record {
       devices = stands;
       bus = λ state stood. record { devices = stands state stood.devices; files = stood.files };
     };
-    held = holds;
+    page = ap (λ (d : Devices). d.page) is;
     files = λ number. ap (file_held number) is ∙ same-file number before.devices.now port byte;
     tree = refl;
     out = refl;
@@ -131,14 +123,7 @@ module _ {T O E : Type 0} (meaning : BusModel T O E) where
   -- the same four are borrowed where one of the sinks took something
   sinks-same : (before : Bus T O E) (out : MutBor O) (err : MutBor E) → out.ghost_name ≡ before.out.ghost_name → err.ghost_name ≡ before.err.ghost_name
       → SameBus meaning.tree before (record { devices = before.devices; tree = before.tree; out = out; err = err })
-  sinks-same before out err borrowed_out borrowed_err = record {
-    borrowed = record { devices = refl; tree = refl; out = borrowed_out; err = borrowed_err };
-    files = record { stays = λ path outside there. there };
-    refusals = λ none. refuses-nothing _;
-    frames = refl;
-    clock = refl;
-    root = refl;
-  }
+  sinks-same before out err borrowed_out borrowed_err = search (rules, refuses-nothing)
 
   -- bytes were put on a sink, and nothing else was done
   pub sink-ends : (before : Bus T O E) (out : MutBor O) (err : MutBor E) (core : Core) (action : Action) (byte : ℕ) (changes : List Change)
@@ -179,7 +164,7 @@ module _ {T O E : Type 0} (meaning : BusModel T O E) where
       → asks_tree action ≡ false → devices.ghost_name ≡ before.devices.ghost_name
       → devices.now.time.frames ≡ before.devices.now.time.frames → device_clock devices.now ≡ device_clock before.devices.now
       → devices.now.root ≡ before.devices.now.root
-      → PortActed meaning before core action byte (record { devices = devices; tree = before.tree; out = before.out; err = before.err }) core
+      → HasActed meaning [] before core action byte (record { devices = devices; tree = before.tree; out = before.out; err = before.err }) core
   devices_done before devices core action byte done is stands none borrowed frames clock root = record {
     does = rw none (λ state stood. rw (is state) (record {
       core = refl;
@@ -264,10 +249,6 @@ module _ {T O E : Type 0} (meaning : BusModel T O E) where
     same = same;
   }
 
-  effect-of : (action : Action) (port byte : ℕ) (state : DeviceState) (core : Core) → action ≡ action_of port → act action byte (storing ((port, byte) ∷ []) state) core ≡ effect state core port byte
-  unfolding effect
-  effect-of action port byte state core is = ap (λ a. act a byte (storing ((port, byte) ∷ []) state) core) is
-
   -- a byte stored takes a state to act from to the state with one more store
   stands-stored : (asks : Bool) (before middle : Bus T O E) (port byte : ℕ) → Stored before middle port byte → (state : DeviceState)
       → RepresentsTo meaning asks before state → RepresentsTo meaning asks middle (storing ((port, byte) ∷ []) state)
@@ -284,42 +265,39 @@ module _ {T O E : Type 0} (meaning : BusModel T O E) where
   keeps-stored true before middle now port byte old new stored keeps = keeps
   keeps-stored false before middle now port byte old new stored keeps = (keeps.0, keeps.1 ∙ stored.tree)
 
-  -- a write is a byte stored, and then the action of its port
+  -- a write is a byte stored, and then an action
   pub wrote_by_act : (before middle now : Bus T O E) (old new : Core) (port byte : ℕ) (action : Action) (answer : Result (Unit {0}) Stop)
-      → action ≡ action_of port → Stored before middle port byte
-      → ActEnds meaning middle old action byte now new answer → OnOk answer (PortWrote meaning before old port byte now new)
-  wrote_by_act before middle now old new port byte action (Err stop) is stored acted = tt
-  wrote_by_act before middle now old new port byte action (Ok done) is stored acted = record {
+      → Stored before middle port byte → ActEnds meaning middle old action byte now new answer
+      → OnOk answer (HasActed meaning ((port, byte) ∷ []) before old action byte now new)
+  wrote_by_act before middle now old new port byte action (Err stop) stored acted = tt
+  wrote_by_act before middle now old new port byte action (Ok done) stored acted = record {
     does = λ state stands.
         let asks = asks_tree action in
-        let does = rw (effect-of action port byte state old is) at (acted.does (storing ((port, byte) ∷ []) state) (stands-stored asks before middle port byte stored state (rw (ap asks_tree is) stands))) in
-        rw (sym (ap asks_tree is)) (record {
+        let after = storing ((port, byte) ∷ []) state in
+        let does = acted.does after (stands-stored asks before middle port byte stored state stands) in
+        record {
           core = does.core;
-          devices = comes-stored asks before middle now port byte stored (effect state old port byte).devices does.devices;
-          makes = makes-both meaning before middle now [] (effect state old port byte).changes (stored-makes before middle port byte stored) does.makes;
-        });
+          devices = comes-stored asks before middle now port byte stored (act action byte after old).devices does.devices;
+          makes = makes-both meaning before middle now [] (act action byte after old).changes (stored-makes before middle port byte stored) does.makes;
+        };
     same = same-again meaning.tree before middle now stored.same acted.same;
   }
 
   pub stopped_by_act : (before middle now : Bus T O E) (old new : Core) (port byte : ℕ) (action : Action) (answer : Result (Unit {0}) Stop)
-      → action ≡ action_of port → Stored before middle port byte
-      → ActEnds meaning middle old action byte now new answer → IfErr answer (λ stop. WriteStopped meaning before old port byte stop now new)
-  stopped_by_act before middle now old new port byte action (Ok done) is stored acted = tt
-  stopped_by_act before middle now old new port byte action (Err stop) is stored acted = record {
+      → Stored before middle port byte → ActEnds meaning middle old action byte now new answer
+      → IfErr answer (λ stop. HasStopped meaning ((port, byte) ∷ []) before old action byte stop now new)
+  stopped_by_act before middle now old new port byte action (Ok done) stored acted = tt
+  stopped_by_act before middle now old new port byte action (Err stop) stored acted = record {
     cut = λ state stands.
-        let short = rw (effect-of action port byte state old is) at (acted.cut (storing ((port, byte) ∷ []) state)
-        (stands-stored (asks_tree action) before middle port byte stored state (rw (ap asks_tree is) stands))) in
-        stops-later meaning before middle now stop [] (effect state old port byte).changes (stored-makes before middle port byte stored) short;
-    leaves = λ state stands. rw (sym is, sym stored.tree) (acted.leaves (storing ((port, byte) ∷ []) state) (stored.devices.devices state stands));
-    keeps = rw (sym is) (keeps-stored (asks_tree action) before middle now port byte old new stored acted.keeps);
-    stored = λ other. ap (λ page. slice_index page other) acted.page ∙ stored.held other;
+        let after = storing ((port, byte) ∷ []) state in
+        stops-later meaning before middle now stop [] (act action byte after old).changes (stored-makes before middle port byte stored)
+        (acted.cut after (stands-stored (asks_tree action) before middle port byte stored state stands));
+    leaves = λ state stands. rw (sym stored.tree) (acted.leaves (storing ((port, byte) ∷ []) state) (stored.devices.devices state stands));
+    keeps = keeps-stored (asks_tree action) before middle now port byte old new stored acted.keeps;
+    page = acted.page ∙ stored.page;
     memory = λ wanted. rw stored.same.root at (acted.memory wanted);
     names = λ wanted.
         let wants = acted.names wanted in
-        record {
-          number = wants.number;
-          reads = sym is ∙ wants.reads;
-          folder = rw (stored.files wants.number) at (rw stored.tree at wants.folder);
-        };
+        record { number = wants.number; reads = wants.reads; folder = rw (stored.files wants.number) at (rw stored.tree at wants.folder) };
     same = same-again meaning.tree before middle now stored.same acted.same;
   }

@@ -1,4 +1,4 @@
-use Rattle.std.proofs.Common.{◌≡◌, ℕ, List, refl}
+use Rattle.std.proofs.Common.{◌≡◌, ℕ, List, refl, rules}
 use Rattle.screen_layers.specs.declared.Moved.{Moved}
 use Rattle.screen_layers.specs.Drawings.{moved_by_pixel, moved_by_sprite}
 use Rattle.screen_layers.specs.Pictures.{Picture, after_pixel, after_sprite}
@@ -12,15 +12,7 @@ use Rattle.varvara_bus.specs.Effect.{auto_in, x_in, y_in, addr_in, places_stored
 pub drawn_on : (devices : Devices) (screen : Layers) (state : DeviceState) (picture : Picture) (one : Suits devices.root devices.first_file)
     (other : Suits devices.root devices.second_file) → DevicesRepresent devices state → ScreenRepresents screen picture
     → DevicesRepresent (record devices { screen = screen; first_suits = one; second_suits = other }) (record state { picture = picture })
-drawn_on devices screen state picture one other stands drawn = record {
-  page = stands.page;
-  screen = drawn;
-  voices = stands.voices;
-  files = stands.files;
-  frames = stands.frames;
-  clock = stands.clock;
-  root = stands.root;
-}
+drawn_on devices screen state picture one other stands drawn = search (rules, stands, drawn)
 
 -- what a drawing does, by the shorts that were read
 pub pixel-read : (state : DeviceState) (control x y auto : ℕ) (next : ℕ × ℕ) → x ≡ x_in state.history → y ≡ y_in state.history → auto ≡ auto_in state.history

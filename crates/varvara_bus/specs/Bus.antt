@@ -1,6 +1,6 @@
 -- A bus: devices, a tree and two sinks that are borrowed to it, and its ports.
-use Rattle.std.specs.Prelude.{◌≡◌, ℕ, ◌==◌, Bool, true, false, List, [], ◌∷◌, Option, Some, None, Result, Ok, Err}
-use Rattle.std.specs.Prelude.{IfSome, IsSome, slice_index, if◌then◌else◌}
+use Rattle.std.specs.Prelude.{◌≡◌, ℕ, Bool, true, false, List, [], ◌∷◌, Option, Some, None, Result, Ok, Err}
+use Rattle.std.specs.Prelude.{IfSome, IsSome, slice_index}
 use Rattle.uxn_io_traits.specs.Files.{Nodes, file_at}
 use Rattle.uxn_io_traits.specs.Faults.{Counts, Blame}
 use Rattle.uxn_io_traits.specs.Ended.{RefusesNone}
@@ -18,6 +18,8 @@ use Rattle.uxn_opcodes.specs.Ports.{Rules, result_blame}
 use Rattle.screen_layers.specs.Layers.{Layers}
 use Rattle.varvara_bus.specs.declared.bus.Bus.{Bus}
 use Rattle.varvara_bus.specs.declared.devices.Devices.{Devices}
+use Rattle.input_ports.specs.Page.{with_stores}
+use Rattle.varvara_bus.specs.History.{Store}
 use Rattle.varvara_bus.specs.State.{DeviceState, DevicesRepresent, HasFiles, device_clock, storing}
 use Rattle.varvara_bus.specs.ReadsPort.{read_of}
 use Rattle.varvara_bus.specs.declared.ports.Action.{Action}
@@ -26,7 +28,7 @@ use Rattle.varvara_bus.specs.declared.ports.FileNumber.{FileNumber}
 use Rattle.varvara_bus.specs.declared.ports.FileNumber.TheVariants.{First, Second}
 use Rattle.varvara_bus.specs.declared.ports.FileAct.TheVariants.{Read}
 use Rattle.varvara_bus.specs.FileActs.{PortLeft}
-use Rattle.varvara_bus.specs.Effect.{Effect, action_of, asks_tree, act, effect}
+use Rattle.varvara_bus.specs.Effect.{Effect, action_of, asks_tree, act}
 
 -- the same four are borrowed
 pub record SameBorrowed {T O E : Type 0} (before now : Bus T O E) : Type 0 where
@@ -190,48 +192,35 @@ module _ {T O E : Type 0} (meaning : BusModel T O E) where
   Leaves (ActsOnFile number part) state contents old now new = PortLeft number part state old.memory contents now.devices.now new.memory
   Leaves _ state contents old now new = DevicesRepresent now.devices.now state
 
-  -- a write has its effect, from each state to act from
-  pub record PortWrote (before : Bus T O E) (old : Core) (port byte : ℕ) (now : Bus T O E) (new : Core) : Type 0 where
-    pub does : (state : DeviceState) → RepresentsTo (asks_tree (action_of port)) before state
-        → Does (asks_tree (action_of port)) before now new (effect state old port byte)
-    pub same : SameBus meaning.tree before now
-
-  -- a write that stops has stored its byte and nothing else, and made a prefix of its changes; memory runs out only where there is a root
-  pub record WriteStopped (before : Bus T O E) (old : Core) (port byte : ℕ) (stop : Stop) (now : Bus T O E) (new : Core) : Type 0 where
-    pub cut : (state : DeviceState) → RepresentsTo (asks_tree (action_of port)) before state
-        → StopsShort before now stop (effect state old port byte).changes
-    pub leaves : (state : DeviceState) → DevicesRepresent before.devices.now state
-        → Leaves (action_of port) (storing ((port, byte) ∷ []) state) (meaning.tree.state before.tree.now).contents old now new
-    pub keeps : KeepsBus (asks_tree (action_of port)) before old now new
-    pub stored : (other : ℕ) → held now other ≡ (if other == port then byte else held before other)
-    pub memory : stop ≡ NoMemory → HasRoot before.devices.now
-    pub names : stop ≡ NoMemory → WantsNames (action_of port) before.devices.now (meaning.tree.state before.tree.now).contents
-    pub same : SameBus meaning.tree before now
-
-  -- the rules of a bus's ports
-  abbrev pub bus_rules : Rules (Bus T O E)
-  bus_rules = record { reads = ReadsPort; wrote = PortWrote; stopped = WriteStopped }
-
-  -- what an action does once the byte is stored
-  pub record PortActed (before : Bus T O E) (old : Core) (action : Action) (byte : ℕ) (now : Bus T O E) (new : Core) : Type 0 where
-    pub does : (state : DeviceState) → RepresentsTo (asks_tree action) before state
-        → Does (asks_tree action) before now new (act action byte state old)
-    pub same : SameBus meaning.tree before now
-
-  -- what an action leaves that stops
-  pub record ActStopped (before : Bus T O E) (old : Core) (action : Action) (byte : ℕ) (stop : Stop) (now : Bus T O E) (new : Core)
+  -- an action was done once these bytes were stored, from each state to act from
+  pub record HasActed (stores : List Store) (before : Bus T O E) (old : Core) (action : Action) (byte : ℕ) (now : Bus T O E) (new : Core)
       : Type 0 where
+    pub does : (state : DeviceState) → RepresentsTo (asks_tree action) before state
+        → Does (asks_tree action) before now new (act action byte (storing stores state) old)
+    pub same : SameBus meaning.tree before now
+
+  -- one that stopped made a prefix of its changes, and nothing but these bytes was stored; memory runs out only where there is a root
+  pub record HasStopped (stores : List Store) (before : Bus T O E) (old : Core) (action : Action) (byte : ℕ) (stop : Stop) (now : Bus T O E)
+      (new : Core) : Type 0 where
     pub cut : (state : DeviceState) → RepresentsTo (asks_tree action) before state
-        → StopsShort before now stop (act action byte state old).changes
+        → StopsShort before now stop (act action byte (storing stores state) old).changes
     pub leaves : (state : DeviceState) → DevicesRepresent before.devices.now state
-        → Leaves action state (meaning.tree.state before.tree.now).contents old now new
+        → Leaves action (storing stores state) (meaning.tree.state before.tree.now).contents old now new
     pub keeps : KeepsBus (asks_tree action) before old now new
-    pub page : now.devices.now.page ≡ before.devices.now.page
+    pub page : held_page now ≡ with_stores (held_page before) stores
     pub memory : stop ≡ NoMemory → HasRoot before.devices.now
     pub names : stop ≡ NoMemory → WantsNames action before.devices.now (meaning.tree.state before.tree.now).contents
     pub same : SameBus meaning.tree before now
 
-  -- it did what it does, or it stopped
+  -- the rules of a bus's ports: a write stores its byte, and then the action of its port is done
+  abbrev pub bus_rules : Rules (Bus T O E)
+  bus_rules = record {
+    reads = ReadsPort;
+    wrote = λ before old port byte now new. HasActed ((port, byte) ∷ []) before old (action_of port) byte now new;
+    stopped = λ before old port byte stop now new. HasStopped ((port, byte) ∷ []) before old (action_of port) byte stop now new;
+  }
+
+  -- an action was done, or it stopped
   abbrev pub ActEnds : Bus T O E → Core → Action → ℕ → Bus T O E → Core → Result (Unit {0}) Stop → Type 0
-  ActEnds before old action byte now new (Ok done) = PortActed before old action byte now new
-  ActEnds before old action byte now new (Err stop) = ActStopped before old action byte stop now new
+  ActEnds before old action byte now new (Ok done) = HasActed [] before old action byte now new
+  ActEnds before old action byte now new (Err stop) = HasStopped [] before old action byte stop now new

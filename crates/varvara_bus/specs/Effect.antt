@@ -1,8 +1,9 @@
 -- What a write to a port does (Varvara device reference).
-use Rattle.std.specs.Prelude.{ℕ, ◌==◌, Bool, true, false, List, [], ◌∷◌, ◌++◌, map, if◌then◌else◌}
+use Rattle.std.specs.Prelude.{ℕ, ◌+◌, ◌*◌, ◌==◌, Bool, true, false, List, [], ◌∷◌, ◌++◌, map, Option, Some, None, if◌then◌else◌}
 use Rattle.uxn_io_traits.specs.Outside.{Change, ToOut, ToErr}
 use Rattle.uxn_opcodes.specs.declared.Core.{Core}
-use Rattle.system_port.specs.Expansion.{expanded}
+use Rattle.system_port.specs.declared.expansions.BankRange.{BankRange}
+use Rattle.system_port.specs.Expansion.{no_range, target_at, expanded}
 use Rattle.system_port.specs.DebugText.{debug_text_of}
 use Rattle.varvara_bus.specs.declared.ports.Action.{Action}
 use Rattle.varvara_bus.specs.declared.ports.Action.TheVariants.{Stores, Expands, SetsWorkingPointer, SetsReturnPointer}
@@ -14,7 +15,7 @@ use Rattle.varvara_bus.specs.declared.ports.FileNumber.{FileNumber}
 use Rattle.varvara_bus.specs.declared.ports.FileNumber.TheVariants.{First as FirstFile, Second as SecondFile}
 use Rattle.varvara_bus.specs.declared.ports.FileAct.{FileAct}
 use Rattle.varvara_bus.specs.declared.ports.FileAct.TheVariants.{Stat, Delete, Name, Read, Write}
-use Rattle.file_ports.specs.Actions.{FileOutcome}
+use Rattle.file_ports.specs.Actions.{FileOutcome, count_from}
 use Rattle.input_ports.specs.Page.{short_stores}
 use Rattle.screen_layers.specs.declared.Moved.{Moved}
 use Rattle.screen_layers.specs.Drawings.{moved_by_pixel, moved_by_sprite}
@@ -23,7 +24,7 @@ use Rattle.audio_mixer.specs.Sounds.{started_on}
 use Rattle.varvara_bus.specs.History.{Store, History, stored, stored_short}
 use Rattle.varvara_bus.specs.State.{DeviceState, storing}
 use Rattle.varvara_bus.specs.Voices.{voice_number, base_of, note_at}
-use Rattle.varvara_bus.specs.FileActs.{file_outcome, file_acted}
+use Rattle.varvara_bus.specs.FileActs.{file_base, file_outcome, file_acted}
 
 -- the ports whose write acts
 abbrev pub actions : List (ℕ × Action)
@@ -61,23 +62,36 @@ action_in (row ∷ rows) port = if port == row.0 then row.1 else action_in rows 
 abbrev pub action_of : ℕ → Action
 action_of port = action_in actions port
 
--- what an action may touch beside the screen, the voices and the pointers of the stacks: memory, the tree with the file devices, and
--- the standard output
+-- what an action may touch beside the screen, the voices and the pointers of the stacks: bytes of memory, by what the ports and memory
+-- hold; the tree with the file devices; and the standard output
 pub record Footprint : Type 0 where
-  pub memory : Bool
+  pub memory : Option ((ℕ → ℕ) → List ℕ → BankRange)
   pub tree : Bool
   pub out : Bool
 
-abbrev pub fills_memory : FileAct → Bool
-fills_memory Stat = true
-fills_memory Read = true
-fills_memory _ = false
+-- the short in a port and the next one, and as many bytes of bank 0 from an address on as a file device means
+abbrev pub short_held : (ℕ → ℕ) → ℕ → ℕ
+short_held held port = held port * 256 + held (port + 1)
+
+abbrev pub range_meant : ℕ → ℕ → BankRange
+range_meant at length = record { bank = 0; first = at; count = count_from at length }
+
+-- stats and reads fill memory
+abbrev pub memory_filled : FileAct → ℕ → Option ((ℕ → ℕ) → List ℕ → BankRange)
+memory_filled Stat base = Some (λ held memory. range_meant (short_held held (base + 0x04)) (short_held held (base + 0x0a)))
+memory_filled Read base = Some (λ held memory. range_meant (short_held held (base + 0x0c)) (short_held held (base + 0x0a)))
+memory_filled _ base = None
 
 abbrev pub footprint : Action → Footprint
-footprint Expands = record { memory = true; tree = false; out = false }
-footprint PutsOut = record { memory = false; tree = false; out = true }
-footprint (ActsOnFile number part) = record { memory = fills_memory part; tree = true; out = false }
-footprint _ = record { memory = false; tree = false; out = false }
+footprint Expands = record { memory = Some (λ held memory. target_at memory (short_held held 0x02)); tree = false; out = false }
+footprint PutsOut = record { memory = None; tree = false; out = true }
+footprint (ActsOnFile number part) = record { memory = memory_filled part (file_base number); tree = true; out = false }
+footprint _ = record { memory = None; tree = false; out = false }
+
+-- the bytes of memory that it may touch
+abbrev pub range_of : Option ((ℕ → ℕ) → List ℕ → BankRange) → (ℕ → ℕ) → List ℕ → BankRange
+range_of None held memory = no_range
+range_of (Some range) held memory = range held memory
 
 -- whether an action asks something of the tree: that of a file device
 abbrev pub asks_tree : Action → Bool

@@ -1,18 +1,17 @@
 -- Laws of footprints: an action touches nothing but what its footprint says.
-use Rattle.std.specs.Prelude.{◌≡◌, ℕ, ◌==◌, ◌||◌, not, Bool, true, false, ◌+◌, List, [], ◌∷◌, ◌++◌, map, take, drop, Option, Some, None, IsTrue, refl}
-use Rattle.std.proofs.Common.{sym, ◌∙◌, inl, inr, rules, true≢false}
+use Rattle.std.specs.Prelude.{◌≡◌, ℕ, ◌==◌, ◌||◌, not, Bool, true, false, ◌+◌, ◌%◌, ◌≤◌, List, [], ◌∷◌, ◌++◌, map, length, Option, option_map, is_some, IsTrue, refl}
+use Rattle.std.proofs.Common.{sym, ◌∙◌, inl, inr, rules, true≢false, arith}
 use Rattle.std.proofs.lemmas.Bool.{cases_Bool, eqb-true, and_parts}
 use Rattle.std.specs.List.{list_all}
-use Rattle.std.specs.Option.{option_map}
-use Rattle.uxn_io_traits.specs.Files.{Nodes}
 use Rattle.uxn_io_traits.specs.Outside.{Change, ToOut, ToErr, Creates, ToFile, Removes}
-use Rattle.uxn_memory.specs.Bytes.{bank0}
 use Rattle.uxn_opcodes.specs.declared.Core.{Core}
-use Rattle.file_ports.specs.Device.{FileState, is_writing, Suits}
+use Rattle.file_ports.specs.Device.{Suits}
 use Rattle.file_ports.specs.RootPart.{IsIn, LieIn}
-use Rattle.file_ports.specs.Actions as file
-use Rattle.file_ports.specs.Actions.{FileOutcome, Observed, quiet, is_file, begun, deletes, writes, adds, observed_in, count_from}
+use Rattle.file_ports.specs.Actions.{FileOutcome, observed_in, count_from}
 use Rattle.file_ports.specs.ActLaws.{act-lies, act-suits, of-tree}
+use Rattle.file_ports.specs.MemoryLaws.{places_touched, ChangesAt, acts-change}
+use Rattle.system_port.specs.Expansion.{no_range}
+use Rattle.system_port.specs.RangeLaws.{ChangesWithin, stays-within, expanded-within}
 use Rattle.varvara_bus.specs.declared.ports.Action.{Action}
 use Rattle.varvara_bus.specs.declared.ports.Action.TheVariants.{Stores, Expands, SetsWorkingPointer, SetsReturnPointer}
 use Rattle.varvara_bus.specs.declared.ports.Action.TheVariants.{PutsDebugText, PutsOut, PutsErr}
@@ -21,10 +20,10 @@ use Rattle.varvara_bus.specs.declared.ports.FileNumber.{FileNumber}
 use Rattle.varvara_bus.specs.declared.ports.FileNumber.TheVariants.{First, Second}
 use Rattle.varvara_bus.specs.declared.ports.FileAct.{FileAct}
 use Rattle.varvara_bus.specs.declared.ports.FileAct.TheVariants.{Stat, Delete, Name, Read, Write}
-use Rattle.varvara_bus.specs.History.{Store, History, stored_short}
+use Rattle.varvara_bus.specs.History.{Store, stored, stored_after, stored_short}
 use Rattle.varvara_bus.specs.State.{DeviceState, storing}
-use Rattle.varvara_bus.specs.FileActs.{file_base, file_in, file_action, file_outcome, file_acted, length_in, keeps_in}
-use Rattle.varvara_bus.specs.Effect.{Effect, Footprint, footprint, fills_memory, actions, action_in, action_of, act, effect, debug_bytes}
+use Rattle.varvara_bus.specs.FileActs.{file_base, file_in, file_action, file_outcome, file_acted, length_in}
+use Rattle.varvara_bus.specs.Effect.{Effect, Footprint, footprint, memory_filled, range_meant, range_of, actions, action_in, action_of, act, effect, debug_bytes}
 
 -- this holds of each change
 abbrev pub Each : {A : Type 0} → (A → Type 0) → List A → Type 0
@@ -59,9 +58,10 @@ IsWithin print root (Removes path) = IsIn root (Removes path)
 abbrev pub FilesSuit : DeviceState → Type 0
 FilesSuit devices = Suits devices.root devices.first_file × Suits devices.root devices.second_file
 
--- what was done keeps to a footprint; the bytes of the stacks, the root and whether its parent is a folder are never touched
-pub record KeepsTo (print : Footprint) (devices : DeviceState) (core : Core) (done : Effect) : Type 0 where
-  pub memory : print.memory ≡ false → done.core.memory ≡ core.memory
+-- what was done with these bytes in the ports keeps to a footprint; the bytes of the stacks, the root and whether its parent is a folder
+-- are never touched
+pub record KeepsTo (print : Footprint) (held : ℕ → ℕ) (devices : DeviceState) (core : Core) (done : Effect) : Type 0 where
+  pub memory : 65536 ≤ length core.memory → ChangesWithin (range_of print.memory held core.memory) core.memory done.core.memory
   pub working : done.core.working.bytes ≡ core.working.bytes
   pub returns : done.core.returns.bytes ≡ core.returns.bytes
   pub part : print.tree ≡ false → done.devices.part ≡ devices.part
@@ -79,28 +79,36 @@ lies-within print root (Creates path ∷ changes) lie = (lie.0, lies-within prin
 lies-within print root (ToFile path byte ∷ changes) lie = (lie.0, lies-within print root changes lie.1)
 lies-within print root (Removes path ∷ changes) lie = (lie.0, lies-within print root changes lie.1)
 
--- a file device that neither stats nor reads leaves memory alone
-memory-kept : (act : FileAct) (history : History) (base : ℕ) (root : Option (List ℕ)) (part : Nodes) (parent : Bool) (device : FileState)
-    (memory : List ℕ) → fills_memory act ≡ false → (file.act (file_action act history base) root part parent device memory).memory ≡ memory
-memory-kept Stat history base root part parent device memory none = cc
-memory-kept Read history base root part parent device memory none = cc
-memory-kept Name history base root part parent device memory none = refl
-memory-kept Delete history base root part parent device memory none =
-    elim (option_map (observed_in root part parent) device.path) as (λ seen. (deletes device memory seen).memory ≡ memory) [
-      | None ↦ refl
-      | Some seen ↦ elim (cases_Bool (is_file seen.kind)) [ inl there ↦ rw there refl | inr gone ↦ rw gone refl ]
-    ]
-memory-kept Write history base root part parent device memory none =
-    let at = stored_short history (base + 0x0e) in
-    let count = count_from at (length_in history base) in
-    let keep = keeps_in history base in
-    elim (option_map (observed_in root part parent) device.path) as (λ seen. (writes at count keep device memory seen).memory ≡ memory) [
-      | None ↦ refl
-      | Some seen ↦ elim (begun (is_writing device.mode) keep seen) as (λ first. (adds seen.path memory (take count (drop at (bank0 memory))) first).memory ≡ memory) [
-        | None ↦ refl
-        | Some first ↦ refl
-      ]
-    ]
+-- the bytes that a file device changes are
+meant-within : (at room : ℕ) (before after : List ℕ) → ChangesAt (at, count_from at room) before after
+    → ChangesWithin (range_meant at room) before after
+meant-within at room before after changes = record {
+  size = changes.size;
+  same = λ place out. changes.same place (λ k less is. out k less (is ∙ omega arith));
+}
+
+none-within : (before after : List ℕ) → ChangesAt (0, 0) before after → ChangesWithin no_range before after
+none-within before after changes = record {
+  size = changes.size;
+  same = λ place out. changes.same place (λ k less is. absurd (omega arith));
+}
+
+file-within : (number : FileNumber) (part : FileAct) (devices : DeviceState) (memory : List ℕ) → 65536 ≤ length memory
+    → ChangesWithin (range_of (memory_filled part (file_base number)) (stored devices.history) memory) memory (file_outcome number part devices memory).memory
+file-within number part devices memory size =
+    let base = file_base number in
+    let device = file_in number devices in
+    let seen = option_map (observed_in devices.root devices.part devices.parent) device.path in
+    let changes = acts-change (file_action part devices.history base) devices.root device memory seen size in
+    by part changes
+  where
+    by : (part : FileAct) → ChangesAt (places_touched (file_action part devices.history (file_base number))) memory (file_outcome number part devices memory).memory
+        → ChangesWithin (range_of (memory_filled part (file_base number)) (stored devices.history) memory) memory (file_outcome number part devices memory).memory
+    by Stat changes = meant-within (stored_short devices.history (file_base number + 0x04)) (length_in devices.history (file_base number)) memory _ changes
+    by Read changes = meant-within (stored_short devices.history (file_base number + 0x0c)) (length_in devices.history (file_base number)) memory _ changes
+    by Name changes = none-within memory _ changes
+    by Delete changes = none-within memory _ changes
+    by Write changes = none-within memory _ changes
 
 -- the other parts of a state stay where a file device acted, and both suit the root still
 in-suits : (number : FileNumber) (devices : DeviceState) → FilesSuit devices → Suits devices.root (file_in number devices)
@@ -114,40 +122,40 @@ acted-keeps First outcome devices = (refl, refl, λ suit now. (now, suit.1))
 acted-keeps Second outcome devices = (refl, refl, λ suit now. (suit.0, now))
 
 keeps : (action : Action) (byte : ℕ) (stores : List Store) (devices : DeviceState) (core : Core)
-    → KeepsTo (footprint action) devices core (act action byte (storing stores devices) core)
-keeps Stores byte stores devices core = search rules
-keeps Expands byte stores devices core = search rules
-keeps SetsWorkingPointer byte stores devices core = search rules
-keeps SetsReturnPointer byte stores devices core = search rules
+    → KeepsTo (footprint action) (stored (stored_after devices.history stores)) devices core (act action byte (storing stores devices) core)
+keeps Stores byte stores devices core = search (rules, stays-within)
+keeps Expands byte stores devices core = search (rules, expanded-within)
+keeps SetsWorkingPointer byte stores devices core = search (rules, stays-within)
+keeps SetsReturnPointer byte stores devices core = search (rules, stays-within)
 keeps PutsDebugText byte stores devices core =
     let text = each-map (IsWithin (footprint PutsDebugText) devices.root) (λ letter. ToErr letter) (debug_bytes byte core) (λ letter. tt) in
-    search (rules, text)
-keeps PutsOut byte stores devices core = search rules
-keeps PutsErr byte stores devices core = search rules
-keeps AsksWidth byte stores devices core = search rules
-keeps AsksHeight byte stores devices core = search rules
-keeps DrawsPixel byte stores devices core = search rules
-keeps DrawsSprite byte stores devices core = search rules
-keeps (StartsNote voice) byte stores devices core = search rules
+    search (rules, stays-within, text)
+keeps PutsOut byte stores devices core = search (rules, stays-within)
+keeps PutsErr byte stores devices core = search (rules, stays-within)
+keeps AsksWidth byte stores devices core = search (rules, stays-within)
+keeps AsksHeight byte stores devices core = search (rules, stays-within)
+keeps DrawsPixel byte stores devices core = search (rules, stays-within)
+keeps DrawsSprite byte stores devices core = search (rules, stays-within)
+keeps (StartsNote voice) byte stores devices core = search (rules, stays-within)
 keeps (ActsOnFile number part) byte stores devices core =
-    let stored = storing stores devices in
-    let action = file_action part stored.history (file_base number) in
-    let device = file_in number stored in
-    let acted = acted-keeps number (file_outcome number part stored core.memory) stored in
+    let after = storing stores devices in
+    let action = file_action part after.history (file_base number) in
+    let device = file_in number after in
+    let acted = acted-keeps number (file_outcome number part after core.memory) after in
     record {
-      memory = memory-kept part stored.history (file_base number) devices.root devices.part devices.parent device core.memory;
+      memory = λ size. file-within number part after core.memory size;
       working = refl;
       returns = refl;
       part = λ none. cc;
       root = acted.0;
       parent = acted.1;
-      suit = λ suit. acted.2 suit (act-suits action devices.root devices.part devices.parent device core.memory (in-suits number stored suit));
-      changes = λ suit. lies-within (footprint (ActsOnFile number part)) devices.root (file_outcome number part stored core.memory).changes
-          (act-lies action devices.root devices.part devices.parent device core.memory (in-suits number stored suit));
+      suit = λ suit. acted.2 suit (act-suits action devices.root devices.part devices.parent device core.memory (in-suits number after suit));
+      changes = λ suit. lies-within (footprint (ActsOnFile number part)) devices.root (file_outcome number part after core.memory).changes
+          (act-lies action devices.root devices.part devices.parent device core.memory (in-suits number after suit));
     }
 
 pub effect-keeps : (devices : DeviceState) (core : Core) (port byte : ℕ)
-    → KeepsTo (footprint (action_of port)) devices core (effect devices core port byte)
+    → KeepsTo (footprint (action_of port)) (stored ((port, byte) ∷ devices.history)) devices core (effect devices core port byte)
 unfolding effect
 effect-keeps devices core port byte = keeps (action_of port) byte ((port, byte) ∷ []) devices core
 
@@ -162,10 +170,7 @@ table-tells test (row ∷ rows) port all other =
       | inr apart ↦ rw apart (table-tells test rows port both.1 other)
     ]
 
--- port 18 alone puts bytes on the standard output, and ports 03, a5, ad, b5 and bd alone touch memory
-abbrev pub is_of_memory : ℕ → Bool
-is_of_memory port = port == 0x03 || (port == 0xa5 || port == 0xad) || (port == 0xb5 || port == 0xbd)
-
+-- port 18 alone puts bytes on the standard output
 implied : (a b : Bool) → (not a || b) ≡ true → b ≡ false → a ≡ false
 implied true b is none = absurd (true≢false (sym is ∙ none))
 implied false b is none = refl
@@ -173,5 +178,22 @@ implied false b is none = refl
 pub puts-nothing : (port : ℕ) → (port == 0x18) ≡ false → (footprint (action_of port)).out ≡ false
 puts-nothing port = implied _ _ (table-tells (λ port action. not (footprint action).out || port == 0x18) actions port refl refl)
 
-pub spares-memory : (port : ℕ) → is_of_memory port ≡ false → (footprint (action_of port)).memory ≡ false
-spares-memory port = implied _ _ (table-tells (λ port action. not (footprint action).memory || is_of_memory port) actions port refl refl)
+-- a port whose write touches memory stands behind one that only stores: the other byte of a short
+abbrev pub touches_memory : Action → Bool
+touches_memory action = is_some (footprint action).memory
+
+abbrev only_stores : Action → Bool
+only_stores Stores = true
+only_stores _ = false
+
+stores-only : (action : Action) → only_stores action ≡ true → action ≡ Stores
+stores-only Stores is = refl
+stores-only _ is = cc
+
+follows : (a b : Bool) → (not a || b) ≡ true → a ≡ true → b ≡ true
+follows a b is some = rw some at is
+
+pub touches-behind : (port : ℕ) → touches_memory (action_of port) ≡ true → action_of ((port + 255) % 256) ≡ Stores
+touches-behind port touches =
+    let told = table-tells (λ port action. not (touches_memory action) || only_stores (action_of ((port + 255) % 256))) actions port refl refl in
+    stores-only (action_of ((port + 255) % 256)) (follows (touches_memory (action_of port)) _ told touches)

@@ -1,10 +1,9 @@
 -- The laws that tie an instruction over a bus to what it does to the devices and outside.
-use Rattle.std.specs.Prelude.{◌≡◌, ◌≢◌, ℕ, ◌==◌, Bool, true, false, List, [], ◌∷◌, ◌++◌, Option, Result, Ok}
+use Rattle.std.specs.Prelude.{◌≡◌, ◌≢◌, ℕ, ◌==◌, Bool, true, false, List, [], ◌∷◌, ◌++◌, Result, Ok}
 use Rattle.std.specs.Prelude.{Err, refl}
-use Rattle.std.proofs.Common.{ap, sym, ◌∙◌, append_assoc, inl, inr, arith}
+use Rattle.std.proofs.Common.{ap, sym, ◌∙◌, append_assoc, inl, inr, arith, rules}
 use Rattle.std.proofs.lemmas.Bool.Decides.{nat_tests}
 use Rattle.std.proofs.lemmas.List.{append-nil}
-use Rattle.uxn_io_traits.specs.Files.{Nodes}
 use Rattle.std.specs.Option.{option_map}
 use Rattle.uxn_io_traits.specs.Outside.{Change, World, changed_by, files_by}
 use Rattle.uxn_io_traits.specs.ChangeLaws.{changed_by-append, cut-first, cut-later}
@@ -28,7 +27,7 @@ use Rattle.varvara_bus.specs.declared.bus.Bus.{Bus}
 use Rattle.varvara_bus.specs.State.{DeviceState, HasFiles}
 use Rattle.varvara_bus.specs.Effect.{action_of, asks_tree, effect}
 use Rattle.varvara_bus.specs.Bus.{SameBus, BusRepresents, HasRoot, BusModel, outside_on, Makes, StopsShort, HasEffect, contents_on}
-use Rattle.varvara_bus.specs.Bus.{RepresentsTo, ComesTo, PortWrote, bus_rules}
+use Rattle.varvara_bus.specs.Bus.{RepresentsTo, ComesTo, HasActed, bus_rules}
 use Rattle.varvara_bus.specs.Footprints.{effect-keeps}
 use Rattle.varvara_bus.specs.Model.{Devised, varvara, instruction_effect}
 
@@ -99,14 +98,7 @@ changes-then devices core first after port byte goes_on in_order =
 
 -- the same over nothing, and over two steps
 pub same-itself : {T O E : Type 0} (of_tree : trees.Ghosts T) (bus : Bus T O E) → SameBus of_tree bus bus
-same-itself of_tree bus = record {
-  borrowed = record { devices = refl; tree = refl; out = refl; err = refl };
-  files = record { stays = λ path outside there. there };
-  refusals = λ none. refuses-nothing _;
-  frames = refl;
-  clock = refl;
-  root = refl;
-}
+same-itself of_tree bus = search (rules, refuses-nothing)
 
 pub same-again : {T O E : Type 0} (of_tree : trees.Ghosts T) (a b c : Bus T O E) → SameBus of_tree a b → SameBus of_tree b c → SameBus of_tree a c
 same-again of_tree a b c p q = record {
@@ -173,7 +165,7 @@ module _ {T O E : Type 0} (meaning : BusModel T O E) where
   comes-to false before now state come files = record { devices = come.0; files = rw come.1 (files refl) }
 
   -- so a write has its effect, from each state that the bus represented
-  pub wrote-effect : (before now : Bus T O E) (core core_new : Core) (port byte : ℕ) → PortWrote meaning before core port byte now core_new
+  pub wrote-effect : (before now : Bus T O E) (core core_new : Core) (port byte : ℕ) → HasActed meaning ((port, byte) ∷ []) before core (action_of port) byte now core_new
       → (state : DeviceState) → BusRepresents (contents_on meaning.tree) before state
       → HasEffect meaning before now core_new (effect state core port byte)
   unfolding effect
@@ -242,6 +234,7 @@ module _ {T O E : Type 0} (meaning : BusModel T O E) where
       → MachineStopsAt (bus_rules meaning) (RepresentsSince before) varvara (writes_in (begun core).access) (begins_with devices core)
       stop core_new now
       → StopsShort meaning before now stop (instruction_effect devices core).changes
+  unfolding effect
   stopped-at before now core core_new stop devices other at =
       let later = changes-then devices core at.before at.after at.port at.byte other at.in_order in
       rw later.parts

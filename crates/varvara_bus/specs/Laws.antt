@@ -1,7 +1,7 @@
 -- What one more store changes: the port that it goes to, and no other; and what new devices hold.
 use Rattle.std.specs.Prelude.{◌≡◌, ℕ, ◌<◌, ◌==◌, false, List, [], ◌∷◌, map, Some}
 use Rattle.std.specs.Prelude.{length, replicate, slice_index, slice_set, refl, if◌then◌else◌}
-use Rattle.std.proofs.Common.{ap, sym, ◌∙◌, arith, inl, inr, lit<}
+use Rattle.std.proofs.Common.{ap, sym, ◌∙◌, arith, rules, inl, inr, lit<}
 use Rattle.std.proofs.lemmas.Bool.{cases_lt}
 use Rattle.std.proofs.lemmas.Bool.Decides.{nat_tests}
 use Rattle.std.proofs.lemmas.Grind.{common_steps}
@@ -28,42 +28,20 @@ found page place byte port within = grind (arith, nat_tests, common_steps)
 -- devices with one more byte stored represent the state with one more store
 pub stand-stored : (devices : Devices) (state : DeviceState) (port byte : ℕ) → port < length devices.page → DevicesRepresent devices state
     → DevicesRepresent (record devices { page = slice_set devices.page port byte }) (storing ((port, byte) ∷ []) state)
-stand-stored devices state port byte within stands = record {
-  page = λ p. found devices.page port byte p within ∙ ap (λ held. if p == port then byte else held) (stands.page p);
-  screen = stands.screen;
-  voices = stands.voices;
-  files = stands.files;
-  frames = stands.frames;
-  clock = stands.clock;
-  root = stands.root;
-}
+stand-stored devices state port byte within stands =
+    let page = λ (p : ℕ). found devices.page port byte p within ∙ ap (λ held. if p == port then byte else held) (stands.page p) in
+    search (rules, stands, page)
 
 -- it does not matter how the file devices are known to suit the root
 pub stand-suited : (devices : Devices) (state : DeviceState)
     (one : Suits devices.root devices.first_file) (other : Suits devices.root devices.second_file)
     → DevicesRepresent devices state → DevicesRepresent (record devices { first_suits = one; second_suits = other }) state
-stand-suited devices state one other stands = record {
-  page = stands.page;
-  screen = stands.screen;
-  voices = stands.voices;
-  files = stands.files;
-  frames = stands.frames;
-  clock = stands.clock;
-  root = stands.root;
-}
+stand-suited devices state one other stands = search (rules, stands)
 
 -- nor what lies in the root part
 pub stand-part : (devices : Devices) (state : DeviceState) (part : Nodes) → DevicesRepresent devices state
     → DevicesRepresent devices (record state { part = part })
-stand-part devices state part stands = record {
-  page = stands.page;
-  screen = stands.screen;
-  voices = stands.voices;
-  files = stands.files;
-  frames = stands.frames;
-  clock = stands.clock;
-  root = stands.root;
-}
+stand-part devices state part stands = search (rules, stands)
 
 -- the file devices that are held are those of the state, and suit its root
 pub held-file : (number : FileNumber) (devices : Devices) (state : DeviceState) → DevicesRepresent devices state

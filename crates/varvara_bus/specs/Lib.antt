@@ -9,6 +9,8 @@ pub mod Bus
 pub mod FileCalls
 pub mod Laws
 pub mod Model
+pub mod Touched
+pub mod MemoryLaws
 pub mod Writes
 pub mod InstructionLaws
 pub mod Folders

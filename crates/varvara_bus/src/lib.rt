@@ -8,8 +8,10 @@ mod page;
 mod ports;
 mod screen;
 mod time;
+mod touches;
 mod voices;
 
 pub use bus::Bus;
 pub use devices::Devices;
 pub use time::Clock;
+pub use touches::touched;

@@ -8,4 +8,4 @@ returns g c page moment is_page =
     let size : length (g.P.Ports.stored c.args.ports.now) ≡ 256 = sym (ap length c.stored_page.ensures) ∙ c.has_all_ports.ensures in
     let stored = same_stored _ _ page is_page size in
     ap (λ undo. record (held_by c.args.self.now) { undo = undo })
-    (kept_so c.the_newest_moments_are_held.ensures c.args.core.now _ page.stored c.args.self.now.undo c.keep.new.self _ c.if-not-self.false stored c.keep.ensures)
+    (kept_so c.args.core.now _ page.stored c.args.self.now.undo c.keep.new.self _ c.if-not-self.false stored c.keep.ensures)

@@ -1,48 +1,45 @@
-use Rattle.uxn_undo.proofs.Common.{◌-◌, length, Some, None, arith, map, vec_len, vec_capacity, buffer, entry_in_rows}
-use Rattle.uxn_undo.proofs.Joined.{forgotten, forgotten-rings, forgotten-none}
-use Rattle.uxn_undo.proofs.Slots.{last_entry, fewer_slots, fewer_entries, length-records}
+use Rattle.uxn_undo.proofs.Common.{◌-◌, length, sym, inl, inr, arith, vec_len, vec_capacity}
+use Rattle.std.proofs.lemmas.Option.{slice_get_cases}
+use Rattle.uxn_undo.proofs.Joined.{length-held, forgotten, forgotten-rings}
+use Rattle.uxn_undo.proofs.Slots.{fewer_slots}
 use Rattle.uxn_undo.proofs.undo.Undo.forget_oldest.Goals as goal
 
 pub returns-in_default : goal.returns-in_default
 returns-in_default c =
-    rw (← c.self.view_is) (forgotten-none (map (entry_in_rows c.self.inside.rows.items) c.self.inside.records.items) c.self.inside.bytes.items
-    (last_entry c.self.inside.rows.items c.self.inside.records.items None c.in_default.ensures))
+    let records = c.self.inside.records.items in
+    let held = length-held c.self.inside.rows.items records c.self.inside.bytes.items c.args.self.now c.self.view_is in
+    let none = c.in_default.ensures in
+    elim (slice_get_cases records (length records - 1)).1 [
+      | inl there ↦ let last = there.2 in cc
+      | inr past ↦ absurd (omega (arith, past.0, held, c.requires))
+    ]
 
 pub overflow_sub-bytes : goal.overflow_sub-bytes
 overflow_sub-bytes c =
-    let rows = c.self.inside.rows.items in
-    let records = c.self.inside.records.items in
-    let oldest = c.in-Some.oldest.now in
-    let done = forgotten (map (entry_in_rows rows) records) c.self.inside.bytes.items (entry_in_rows rows oldest) c.self.invariant.0.filled
-    (last_entry rows records (Some oldest) c.in-Some.ensures) in
+    let done = forgotten c.self.inside.rows.items c.self.inside.records.items c.self.inside.bytes.items c.in-Some.oldest.now c.self.invariant.0.filled
+    (sym c.in-Some.ensures) in
     omega (arith, done.fits, c.len-bytes.ensures.len)
 
 pub invariant_of-self : goal.invariant_of-self
 invariant_of-self c =
-    let rows = c.self.inside.rows.items in
-    let records = c.self.inside.records.items in
-    let oldest = c.in-Some.oldest.now in
-    let rings = forgotten-rings (buffer (map (entry_in_rows rows) records) c.self.inside.records.capacity) c.self.inside.bytes (entry_in_rows rows oldest)
-    c.self.invariant.0 (last_entry rows records (Some oldest) c.in-Some.ensures) in
-    rw (c.truncate_back-2.ensures, c.truncate_back.ensures, c.len-records.ensures.len, c.len-bytes.ensures.len, c.from-count.ensures, fewer_entries rows records) (
-      rings,
-      fewer_slots (length records - 1) (vec_len c.self.inside.rows) (vec_capacity c.self.inside.rows) c.self.inside.next records
-          (omega (arith, length-records rows records c.self.inside.bytes.items c.args.self.now c.self.view_is, c.requires)) c.self.invariant.1,
+    let inside = c.self.inside in
+    let records = inside.records.items in
+    let held = length-held inside.rows.items records inside.bytes.items c.args.self.now c.self.view_is in
+    rw (c.truncate_back-2.ensures, c.truncate_back.ensures, c.len-records.ensures.len, c.len-bytes.ensures.len, c.from-count.ensures) (
+      forgotten-rings inside.rows.items inside.records inside.bytes c.in-Some.oldest.now c.self.invariant.0 (sym c.in-Some.ensures),
+      fewer_slots (length records - 1) (vec_len inside.rows) (vec_capacity inside.rows) inside.next records (omega (arith, held, c.requires))
+          c.self.invariant.1,
     )
 
 pub returns : goal.returns
 returns c =
-    let rows = c.self.inside.rows.items in
-    let records = c.self.inside.records.items in
-    let oldest = c.in-Some.oldest.now in
-    let done = forgotten (map (entry_in_rows rows) records) c.self.inside.bytes.items (entry_in_rows rows oldest) c.self.invariant.0.filled
-    (last_entry rows records (Some oldest) c.in-Some.ensures) in
+    let done = forgotten c.self.inside.rows.items c.self.inside.records.items c.self.inside.bytes.items c.in-Some.oldest.now c.self.invariant.0.filled
+    (sym c.in-Some.ensures) in
     rw (
       c.truncate_back-2.ensures,
       c.truncate_back.ensures,
       c.len-records.ensures.len,
       c.len-bytes.ensures.len,
       c.from-count.ensures,
-      fewer_entries rows records,
       ← c.self.view_is,
     ) done.moments

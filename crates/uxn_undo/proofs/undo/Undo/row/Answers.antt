@@ -1,12 +1,12 @@
-use Rattle.uxn_undo.proofs.Common.{◌≡◌, ◌-◌, ◌<◌, List, length, Some, refl, sym, ap, ◌∙◌, arith, map, slice_index_or, vec_len, Row, entry_in_rows}
+use Rattle.uxn_undo.proofs.Common.{◌≡◌, ◌-◌, ◌<◌, List, length, Some, refl, sym, ap, ◌∙◌, arith, slice_index_or, vec_len, Row, row_of}
 use Rattle.uxn_undo.proofs.Common.{row_in, no_row}
 use Rattle.std.proofs.lemmas.List.{get_or_default}
-use Rattle.uxn_undo.proofs.Joined.{at_joined}
-use Rattle.uxn_undo.proofs.Slots.{length-records, entry_at, slot_within}
+use Rattle.uxn_undo.proofs.Joined.{at_moment, length-held}
+use Rattle.uxn_undo.proofs.Slots.{slot_within}
 use Rattle.uxn_undo.proofs.undo.Undo.row.Goals as goal
 
 pub nth-requires : goal.nth-requires
-nth-requires c = omega (arith, length-records c.self.inside.rows.items c.self.inside.records.items c.self.inside.bytes.items c.args.self.now c.self.view_is)
+nth-requires c = omega (arith, length-held c.self.inside.rows.items c.self.inside.records.items c.self.inside.bytes.items c.args.self.now c.self.view_is)
 
 pub bounds-rows-from : goal.bounds-rows-from
 bounds-rows-from c =
@@ -25,6 +25,6 @@ returns c =
     let here : row ≡ slice_index_or rows r.slot row =
     c.index-rows-from.is ∙ ap (λ k. slice_index_or c.as_slice-rows.result.now k row) c.from.ensures
     ∙ ap (λ (z : List Row). slice_index_or z r.slot row) c.as_slice-rows.ensures.value in
-    rw (← c.self.view_is) (at_joined (λ kept. row_in kept) (λ e. record { working = e.working; returns = e.returns; stored = e.stored }) (λ e bytes. refl)
-    (map (entry_in_rows rows) records) c.self.inside.bytes.items (c.args.back - 1) (entry_in_rows rows r) (entry_at rows records (c.args.back - 1) r c.nth.ensures)
+    rw (← c.self.view_is) (at_moment rows (λ kept. row_in kept) (row_of rows) (λ r bytes. refl) records c.self.inside.bytes.items (c.args.back - 1) r
+    c.nth.ensures
     ∙ ap (λ (z : Row). Some z) (get_or_default rows r.slot no_row row there ∙ sym here))

@@ -4,12 +4,12 @@ use Rattle.varvara_bus.proofs.bus.BusPorts.deo.Goals as goal
 
 pub returns-clause-ok : goal.returns-clause-ok
 returns-clause-ok g c =
-    wrote_by_act _ _ _ _ _ _ _ _ _ _ c.of.ensures
-    (byte_stored _ c.args.self.now _ c.args.port c.args.value refl c.store.ensures.devices c.store.ensures.stands c.store.ensures.held c.store.ensures.frames c.store.ensures.clock c.store.ensures.root)
-    c.act.ensures.acted
+    rw (← c.of.ensures) (wrote_by_act _ _ _ _ _ _ _ _ _ _
+    (byte_stored _ c.args.self.now _ c.args.port c.args.value refl c.store.ensures.devices c.store.ensures.stands c.store.ensures.frames c.store.ensures.clock c.store.ensures.root)
+    c.act.ensures.acted)
 
 pub returns-clause-err : goal.returns-clause-err
 returns-clause-err g c =
-    stopped_by_act _ _ _ _ _ _ _ _ _ _ c.of.ensures
-    (byte_stored _ c.args.self.now _ c.args.port c.args.value refl c.store.ensures.devices c.store.ensures.stands c.store.ensures.held c.store.ensures.frames c.store.ensures.clock c.store.ensures.root)
-    c.act.ensures.acted
+    rw (← c.of.ensures) (stopped_by_act _ _ _ _ _ _ _ _ _ _
+    (byte_stored _ c.args.self.now _ c.args.port c.args.value refl c.store.ensures.devices c.store.ensures.stands c.store.ensures.frames c.store.ensures.clock c.store.ensures.root)
+    c.act.ensures.acted)
