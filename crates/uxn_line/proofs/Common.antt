@@ -24,8 +24,8 @@ pub use Rattle.uxn_line.specs.Members.{IsRunning, MemberAt, OpenAt, RunsAt, memb
 pub use Rattle.uxn_line.specs.Moves.{Came, IsStill, IsUnderWay, IsWaiting, Leads, LineReaches, MachineIsHeld, WritesLast, last_machine, ring_of}
 pub use Rattle.uxn_line.specs.Moves.{written_in}
 pub use Rattle.uxn_line.specs.Places.{IsForConsole, no_outputs, put_by, put_in, turn}
-pub use Rattle.uxn_line.specs.Standing.{Between, InLine, LineRepresents, RingBefore, Turned, given_after, line_job, machine_place, none_turned}
-pub use Rattle.uxn_line.specs.Standing.{one_more}
+pub use Rattle.uxn_line.specs.Standing.{AreToCome, Between, ComeAfter, InLine, LineRepresents, RingBefore, Turned, inputs, line_job, machine_place}
+pub use Rattle.uxn_line.specs.Standing.{none_turned, one_more}
 pub use Rattle.uxn_line.specs.Streams.{AreOfConsole, IsJob, LineJob, after, clock_by, exit_code_at, first_place, rom_at, script_at, stream}
 pub use Rattle.uxn_line.specs.Work.{WorksOn, work, work_left, works}
 pub use Rattle.uxn_line.specs.declared.line.Line.{Line}
@@ -38,9 +38,8 @@ pub use Rattle.varvara_bus.specs.History.{stored_short}
 pub use Rattle.varvara_bus.specs.Model.{instruction_effect}
 pub use Rattle.varvara_bus.specs.State.{DeviceState, new_state, storing}
 pub use Rattle.varvara_bus.specs.declared.devices.Devices.{Devices}
-pub use Rattle.vector_loop.specs.PendingInputs.{console_byte_of, counted_input, pending_inputs_of}
+pub use Rattle.vector_loop.specs.PendingInputs.{ConsoleByte, console_byte_of, counted_input, pending_inputs_of}
 pub use Rattle.vector_loop.specs.Places.{Place, PlaceHasEnded, giving_by, holding, next_place, place}
-pub use Rattle.vector_loop.specs.Run.{ConsoleByte}
 pub use Rattle.vector_loop.specs.State.{State, is_over}
 pub use Rattle.vector_loop.specs.Trace.{Trace}
 pub use Rattle.vector_loop.specs.declared.pending_input.PendingInput.{PendingInput}

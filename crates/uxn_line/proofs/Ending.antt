@@ -1,11 +1,11 @@
 -- What a line has put is a prefix of the stream of its last machine.
-use Rattle.uxn_line.proofs.Common.{◌≡◌, ℕ, zero, suc, ◌+◌, ◌<◌, ◌↔◌, ◌||◌, inl, inr, Bool, true, false, List, [], ◌∷◌, ◌++◌, length, refl, sym, ap}
-use Rattle.uxn_line.proofs.Common.{subst, ◌∙◌, arith, append_assoc, length-append, Result, Ok, Err, IfOk, cases_eq, SinkEnded, sink-as-it-was}
+use Rattle.uxn_line.proofs.Common.{◌≡◌, ℕ, zero, suc, ◌+◌, ◌<◌, ◌||◌, inl, inr, Bool, true, false, List, [], ◌∷◌, ◌++◌, sym, ap}
+use Rattle.uxn_line.proofs.Common.{subst, ◌∙◌, arith, append_assoc, length-append, Result, Ok, Err, cases_eq, SinkEnded, sink-as-it-was}
 use Rattle.uxn_line.proofs.Common.{SinkState, Line, Ran, Gave, Waits, Held, PlaceHasEnded, put_in, LineJob, IsJob, stream, after, Turned}
 use Rattle.uxn_line.proofs.Common.{machine_place, LineRepresents, last_machine, written_in, IsWaiting, IsStill, Leads, WritesLast, IsUnderWay}
 use Rattle.uxn_line.proofs.Common.{LineReaches, work_left, WorksOn}
 use Rattle.circular_buffer.proofs.Places.{slice_get-some}
-use Rattle.std.specs.Prelude.{OnErr, is_err}
+use Rattle.std.specs.Prelude.{is_err}
 use Rattle.std.proofs.lemmas.Bool.{true≢false}
 use Rattle.std.proofs.lemmas.List.{take-append-le}
 use Rattle.uxn_io_traits.specs.EndedLaws.{sink-then}
@@ -14,7 +14,7 @@ use Rattle.uxn_io_traits.specs.declared.sinks.Failed.{Failed}
 use Rattle.uxn_line.specs.declared.line.Moved.{Moved}
 use Rattle.uxn_line.specs.declared.line.Moved.TheVariants.{Ended}
 use Rattle.uxn_line.specs.Machines.{handed_on}
-use Rattle.uxn_line.specs.Moves.{turned_by, is_move, Cause, Goes, Fails, TurnCame, StaysUnderWay, GoesOnWith, LineStops, Went}
+use Rattle.uxn_line.specs.Moves.{turned_by, is_move, Cause, Goes, TurnCame, StaysUnderWay, GoesOnWith, LineStops, Went}
 use Rattle.uxn_line.proofs.MachineTurns.{run-put}
 use Rattle.uxn_line.proofs.Turning.{follows}
 use Rattle.uxn_line.proofs.Running.{leads-nowhere}
@@ -44,7 +44,8 @@ works-more true a b c first last = works-then true true a b c first last
 works-more false a b c first last = works-then false true a b c first last
 
 -- where the last machine writes a byte its stream goes on with it
-goes-on-with : (job : LineJob) (line : Line) (turned : Turned) (machine byte : ℕ) → LineRepresents job line turned → WritesLast job turned machine byte
+goes-on-with : (job : LineJob) (line : Line) (turned : Turned) (machine byte : ℕ) → LineRepresents job line turned
+    → WritesLast job turned machine byte
     → GoesOnWith job turned byte
 goes-on-with job line turned machine byte stands writes =
     let count = stands.machines in
@@ -72,7 +73,8 @@ leads-then to then one two a b c p q = λ job turned stands.
     let last = q job (to turned) first.0 in
     (last.0, last.1 ∙ ap (λ written. written ++ two) first.1 ∙ append_assoc (written_in job turned) one two)
 
-goes-then : (to then : Turned → Turned) (a b c : Line) (o p q : SinkState) → Goes to a b o p → Goes then b c p q → Goes (λ turned. then (to turned)) a c o q
+goes-then : (to then : Turned → Turned) (a b c : Line) (o p q : SinkState) → Goes to a b o p → Goes then b c p q
+    → Goes (λ turned. then (to turned)) a c o q
 goes-then to then a b c o p q first last = record {
   bytes = first.bytes ++ last.bytes;
   put = sink-then first.bytes last.bytes false o p q first.put last.put;
@@ -148,59 +150,31 @@ way-stops job begun a b o p way stopped =
     (sink-then written (byte ∷ []) true begun stopped.here p (put-more job begun a b o stopped.here way stopped.to stopped.goes) stopped.put))
 
 -- a machine that waits is idle, and its run goes on
-waiting-idle : (job : LineJob) (line : Line) (turned : Turned) (machine : ℕ) → IsWaiting job line turned machine → (machine_place job turned machine).left ≡ 0
-waiting-idle job line turned zero waits = absurd waits
-waiting-idle job line turned (suc before) waits = waits.idle
+pub waiting_idle : (job : LineJob) (line : Line) (turned : Turned) (machine : ℕ) → IsWaiting job line turned machine
+    → (machine_place job turned machine).left ≡ 0
+waiting_idle job line turned zero waits = absurd waits
+waiting_idle job line turned (suc before) waits = waits.idle
 
-waiting-goes : (job : LineJob) (line : Line) (turned : Turned) (machine : ℕ) → IsWaiting job line turned machine → PlaceHasEnded (machine_place job turned machine) → ⊥
-waiting-goes job line turned zero waits = absurd waits
-waiting-goes job line turned (suc before) waits = waits.goes_on
+pub waiting_goes : (job : LineJob) (line : Line) (turned : Turned) (machine : ℕ) → IsWaiting job line turned machine
+    → PlaceHasEnded (machine_place job turned machine) → ⊥
+waiting_goes job line turned zero waits = absurd waits
+waiting_goes job line turned (suc before) waits = waits.goes_on
 
 -- a turn, by what is said of it
 module _ (machine : ℕ) (line line_now : Line) (out out_now : SinkState) where
   abbrev pub Comes : Result Moved Failed → Type 0
   Comes result = TurnCame machine line line_now out out_now result
 
-  pub turn-goes : (result : Result Moved Failed) → Comes result → IfOk result (λ moved. Goes (turned_by moved machine) line line_now out out_now)
-  turn-goes (Ok moved) came = record { bytes = came.bytes; put = came.put; leads = came.came.leads }
-  turn-goes (Err failed) fails = tt
-
-  pub turn-fails : (result : Result Moved Failed) → Comes result → OnErr result (Fails machine line line_now out out_now)
-  turn-fails (Ok moved) came = tt
-  turn-fails (Err failed) fails = fails
-
-  pub turn-waits : (result : Result Moved Failed) → Comes result → (job : LineJob) (turned : Turned) → LineRepresents job line turned
-      → (result ≡ Ok Waits) ↔ IsWaiting job line turned machine
-  turn-waits (Ok Ran) came job turned stands =
-      let vector = (came.came.cause job turned stands).vector in
-      (λ e. absurd (cc), λ waits. absurd (omega (arith, vector, waiting-idle job line turned machine waits)))
-  turn-waits (Ok Gave) came job turned stands = (λ e. absurd (cc), λ waits. absurd ((came.came.cause job turned stands).comes waits))
-  turn-waits (Ok Waits) came job turned stands = (λ e. came.came.cause job turned stands, λ waits. refl)
-  turn-waits (Ok Held) came job turned stands =
-      let vector = (came.came.cause job turned stands).vector in
-      (λ e. absurd (cc), λ waits. absurd (omega (arith, vector, waiting-idle job line turned machine waits)))
-  turn-waits (Ok Ended) came job turned stands =
-      (λ e. absurd (cc), λ waits. absurd (waiting-goes job line turned machine waits (came.came.cause job turned stands)))
-  turn-waits (Err failed) fails job turned stands =
-      let vector = (fails.cause job turned stands).vector in
-      (λ e. absurd (cc), λ waits. absurd (omega (arith, vector, waiting-idle job line turned machine waits)))
-
-  pub turn-same : (result : Result Moved Failed) → Comes result → IfOk result (λ moved. is_move moved ≡ false → line_now ≡ line)
-  turn-same (Ok moved) came = λ is. (rw is at came.came.works)
-  turn-same (Err failed) fails = tt
-
-  pub turn-machines : (result : Result Moved Failed) → Comes result → length line_now.members.items ≡ length line.members.items
-  turn-machines (Ok moved) came = came.came.machines
-  turn-machines (Err failed) fails = ap (λ (l : Line). length l.members.items) fails.same
-
   pub turn-way : (result : Result Moved Failed) → Comes result → (job : LineJob) (begun : SinkState) → IsUnderWay job begun line out
       → StaysUnderWay job begun line_now out_now (is_err result)
-  turn-way (Ok moved) came job begun way = way-on job begun line line_now out out_now way (turn-went machine line line_now out out_now (Ok moved) came)
+  turn-way (Ok moved) came job begun way = way-on job begun line line_now out out_now way
+      (turn-went machine line line_now out out_now (Ok moved) came)
   turn-way (Err failed) fails job begun way =
       way-stops job begun line line_now out out_now way (turn-went machine line line_now out out_now (Err failed) fails)
 
 -- a machine that is still in a line where nothing was moved so far was so at the beginning
-pub still-since : (moved : Bool) (begun line : Line) (machine : ℕ) → moved ≡ false → WorksOn moved begun line → IsStill line machine → IsStill begun machine
+pub still-since : (moved : Bool) (begun line : Line) (machine : ℕ) → moved ≡ false → WorksOn moved begun line → IsStill line machine
+    → IsStill begun machine
 still-since true begun line machine is works still = absurd (cc)
 still-since false begun line machine is works still = (rw works at still)
 

@@ -1,16 +1,18 @@
 -- A machine of a line that was given what comes next, or waits for it.
-use Rattle.uxn_line.proofs.Common.{◌≡◌, ◌≢◌, ℕ, zero, suc, ◌-◌, ◌<◌, ◌≤◌, ◌↔◌, inl, inr, Bool, true, false, List, [], ◌∷◌, ◌++◌, take, drop, length}
-use Rattle.uxn_line.proofs.Common.{get_or, refl, sym, ap, ◌∙◌, arith, append-nil, cases_Bool, slice_get-set_other, slice_get-set_same, Some}
-use Rattle.uxn_line.proofs.Common.{slice_get, length-set, slice_get_within, slice_get_read, is_over, Line, Gave, Waits, Member, Place}
-use Rattle.uxn_line.proofs.Common.{PlaceHasEnded, turn, IsForConsole, put_in, pending_inputs_of, LineJob, script_at, stream, MemberAt}
+use Rattle.uxn_line.proofs.Common.{◌≡◌, ◌≢◌, ℕ, zero, suc, ◌-◌, ◌<◌, ◌≤◌, ◌↔◌, inl, inr, Bool, true, false, List, [], ◌∷◌, ◌++◌, drop, length}
+use Rattle.uxn_line.proofs.Common.{get_or, refl, sym, ap, ◌∙◌, arith, append-nil, cases_Bool, Some}
+use Rattle.uxn_line.proofs.Common.{slice_get, slice_get_within, slice_get_read, is_over, Line, Gave, Waits, Member, Place}
+use Rattle.uxn_line.proofs.Common.{PlaceHasEnded, turn, IsForConsole, put_in, LineJob, stream, MemberAt}
 use Rattle.uxn_line.proofs.Common.{member_has_ended, next_pending, OpenAt, Turned, one_more, machine_place, Between, InLine, LineRepresents}
 use Rattle.uxn_line.proofs.Common.{IsWaiting, ring_of, Came, work, work_left, PendingInput}
 use Rattle.uxn_line.specs.Members.{IsOpen}
 use Rattle.uxn_line.specs.MemberTurns.{WasGivenNext}
 use Rattle.uxn_line.proofs.Turned.{turn-given}
 use Rattle.uxn_line.proofs.Working.{idle-open, set-less}
-use Rattle.uxn_line.proofs.Standings.{place-apart, ended-is, not-ended, stands-more}
-use Rattle.uxn_line.proofs.Running.{found-is, with_member, handed-nothing, own-more, put-behind, wrote-none, leads-nowhere}
+use Rattle.uxn_line.proofs.Standings.{place-apart, ended-is, not-ended}
+use Rattle.uxn_line.proofs.Running.{found-is, with_member, given_on, handed-nothing, own-more, wrote-none, one-moves, move-came, still-came}
+use Rattle.std.proofs.lemmas.List.{append_cancel_left}
+use Rattle.uxn_line.proofs.Turning.{follows}
 use Rattle.uxn_line.proofs.Coming.{Comes, comes}
 
 -- the member that was found where a machine is idle and not at its end
@@ -35,55 +37,33 @@ idle-at member place at idle goes =
       some = λ none. (let all = at.given.1 none in let open_still = still.1 in cc);
     }
 
--- a line in which a machine was given something, with what is left of its script
-abbrev pub given_on : Line → ℕ → Member → List PendingInput → Line
-given_on line machine now rest = record (with_member line machine now) { input_queue = rest }
-
 pub record GivesIn (job : LineJob) (turned : Turned) (machine : ℕ) (now : Member) (rest : List PendingInput) : Type 0 where
   pub script : rest ≡ (machine_place job (one_more machine turned) 0).pending_inputs
   pub own : InLine job (one_more machine turned) machine now
   pub put : put_in (turn job.budget (machine_place job turned machine)) ≡ put_in (machine_place job turned machine)
-
-give-stands : (job : LineJob) (line : Line) (turned : Turned) (machine : ℕ) (member now : Member) (rest : List PendingInput) → LineRepresents job line turned
-    → slice_get line.members.items machine ≡ Some member → GivesIn job turned machine now rest
-    → LineRepresents job (given_on line machine now rest) (one_more machine turned)
-give-stands job line turned machine member now rest stands there gives =
-    let items = line.members.items in
-    stands-more job turned machine line (given_on line machine now rest) stands (record {
-      member = now;
-      here = slice_get-set_same items machine now (slice_get_within items machine member there);
-      own = gives.own;
-      behind = λ next at_next.
-          let was = sym (slice_get-set_other items machine (suc machine) now (λ same. omega (arith, same))) ∙ at_next in
-          let in_line = stands.each (suc machine) next was in
-          put-behind job turned machine [] next next (handed-nothing next in_line.within) (gives.put ∙ sym (append-nil _)) in_line;
-      apart = λ other apart further. slice_get-set_other items machine other now apart;
-      count = length-set items machine now;
-      budget = refl;
-      script = gives.script;
-    })
 
 -- a turn of it is a giving, where it does not wait
 pub give-came : (line : Line) (machine : ℕ) (member now : Member) (rest : List PendingInput) → OpenAt line machine member
     → ((job : LineJob) (turned : Turned) → LineRepresents job line turned → GivesIn job turned machine now rest)
     → ((job : LineJob) (turned : Turned) → LineRepresents job line turned → IsWaiting job line turned machine → ⊥)
     → work_left (given_on line machine now rest) < work_left line → Came machine Gave [] line (given_on line machine now rest)
-give-came line machine member now rest found gives comes less = record {
-  cause = λ job turned stands.
-      let at = (stands.each machine member found.there).stands in
-      record {
+give-came line machine member now rest found gives comes less =
+    move-came line (given_on line machine now rest) machine member now Gave [] []
+    (one-moves line machine member now rest [] found.there (λ next there full. handed-nothing next full)) (λ turned. refl) refl
+    (λ job turned stands.
+    let at = (stands.each machine member found.there).stands in
+    let given = gives job turned stands in
+    record {
+      cause = record {
         idle = sym at.stands.left ∙ found.idle;
         goes_on = not-ended member (machine_place job turned machine) at found.goes_on;
         comes = comes job turned stands;
       };
-  leads = λ job turned stands.
-      let given = gives job turned stands in (
-        give-stands job line turned machine member now rest stands found.there given,
-        wrote-none job turned machine given.put,
-      );
-  works = less;
-  machines = length-set line.members.items machine now;
-}
+      script = given.script;
+      own = given.own;
+      put = given.put ∙ sym (append-nil _);
+      wrote = wrote-none job turned machine given.put;
+    }) less
 
 -- what is left of the script where another machine than the first had a turn
 pub script-apart : (job : LineJob) (line : Line) (turned : Turned) (before : ℕ) → LineRepresents job line turned
@@ -99,23 +79,27 @@ shorter : (ring : List ℕ) → length (drop 1 ring) ≤ length ring
 shorter [] = omega arith
 shorter (byte ∷ ring) = omega arith
 
-pub next-own : (job : LineJob) (turned : Turned) (before : ℕ) (member now : Member) → WasGivenNext job.budget member now → InLine job turned (suc before) member
-    → IdleAt (machine_place job turned (suc before)) → Comes job before (turned before) (turned (suc before)) member.ring.items
+pub next-own : (job : LineJob) (turned : Turned) (before : ℕ) (member now : Member) (all : List ℕ) → WasGivenNext job.budget member now
+    → InLine job turned (suc before) member → IdleAt (machine_place job turned (suc before))
+    → stream job before ≡ put_in (machine_place job turned before) ++ all
+    → Comes member.ring.items all (machine_place job turned (suc before)).pending_inputs
     → InLine job (one_more (suc before) turned) (suc before) now
-next-own job turned before member now given inline idle next =
+next-own job turned before member now all given inline idle whole next =
     let place = machine_place job turned (suc before) in
-    let at : MemberAt now (turn job.budget place) = given.stands place next.pending_inputs inline.stands next.are next.last idle.goes_on in
-    let pending_inputs = (turn-given job.budget place (next_pending member.ring.items) next.pending_inputs idle.idle next.are idle.goes_on (ring-is-for member.ring.items)).0 in
-    let total = length (pending_inputs_of (script_at job (suc before))) in
-    let count = ap (λ g. total - length g) pending_inputs ∙ next.given in
+    let at : MemberAt now (turn job.budget place) = given.stands place next.later inline.stands next.are next.last idle.goes_on in
+    let later = (turn-given job.budget place (next_pending member.ring.items) next.later idle.idle next.are idle.goes_on
+    (ring-is-for member.ring.items)).0 in
     own-more job turned member now (drop 1 member.ring.items) given.ring (suc before) inline at (shorter member.ring.items)
-    (λ goes. next.written ∙ ap (λ k. take k (stream job before) ++ drop 1 member.ring.items) (sym count))
+    (λ goes rest is.
+    let same : all ≡ rest = append_cancel_left (put_in (machine_place job turned before)) all rest (sym whole ∙ is) in
+    rw (later, ← same) next.to_come)
 
 pub next-came : (line : Line) (before : ℕ) (member now last : Member) → OpenAt line (suc before) member → WasGivenNext line.budget member now
     → slice_get line.members.items before ≡ Some last → (member.ring.items ≡ [] → member_has_ended last ≡ true)
     → ((left : ℕ) → work line.budget left now < work line.budget left member) → Came (suc before) Gave [] line (with_member line (suc before) now)
 next-came line before member now last found given there ended less =
-    let over : (job : LineJob) (turned : Turned) → LineRepresents job line turned → member.ring.items ≡ [] → PlaceHasEnded (machine_place job turned before)
+    let over : (job : LineJob) (turned : Turned) → LineRepresents job line turned → member.ring.items ≡ []
+    → PlaceHasEnded (machine_place job turned before)
     = λ job turned stands none. (ended-is last (machine_place job turned before) (stands.each before last there).stands).0 (ended none) in
     give-came line (suc before) member now line.input_queue found
     (λ job turned stands.
@@ -124,12 +108,14 @@ next-came line before member now last found given there ended less =
     let at = inline.stands in
     let idle = idle-at member place at found.idle found.goes_on in
     let between : Between job before (turned before) (turned (suc before)) member.ring.items = inline.ring in
-    let next = comes job before (turned before) (turned (suc before)) member.ring.items stands.job_is
-    (between.written (not-ended member place at found.goes_on)) idle.some (over job turned stands) in
+    let run = follows job stands.job_is before (turned before) in
+    let next = comes member.ring.items run.rest place.pending_inputs (between.to_come (not-ended member place at found.goes_on) run.rest run.prefix)
+    idle.some (λ none. (run.end (over job turned stands none)).0) in
     record {
       script = script-apart job line turned before stands;
-      own = next-own job turned before member now (rw stands.budget at given) inline idle next;
-      put = (turn-given job.budget place (next_pending member.ring.items) next.pending_inputs idle.idle next.are idle.goes_on (ring-is-for member.ring.items)).1;
+      own = next-own job turned before member now run.rest (rw stands.budget at given) inline idle run.prefix next;
+      put = (turn-given job.budget place (next_pending member.ring.items) next.later idle.idle next.are idle.goes_on
+          (ring-is-for member.ring.items)).1;
     })
     (λ job turned stands waits. waits.comes (over job turned stands (ap ring_of (sym found.there) ∙ waits.nothing)))
     (set-less line.budget (length line.input_queue) line.members.items (suc before) member now found.there less)
@@ -137,19 +123,14 @@ next-came line before member now last found given there ended less =
 -- a machine waits whose ring is empty, where the run of the one before it goes on
 pub wait-came : (line : Line) (before : ℕ) (member last : Member) → OpenAt line (suc before) member
     → slice_get line.members.items before ≡ Some last → member.ring.items ≡ [] → member_has_ended last ≡ false → Came (suc before) Waits [] line line
-wait-came line before member last found there none goes = record {
-  cause = λ job turned stands.
-      let at = (stands.each (suc before) member found.there).stands in
-      record {
-        goes_on = not-ended member (machine_place job turned (suc before)) at found.goes_on;
-        idle = sym at.stands.left ∙ found.idle;
-        nothing = ap ring_of found.there ∙ none;
-        comes = not-ended last (machine_place job turned before) (stands.each before last there).stands goes;
-      };
-  leads = leads-nowhere line;
-  works = refl;
-  machines = refl;
-}
+wait-came line before member last found there none goes = still-came line (suc before) Waits (λ turned. refl) refl (λ job turned stands.
+    let at = (stands.each (suc before) member found.there).stands in
+    record {
+      goes_on = not-ended member (machine_place job turned (suc before)) at found.goes_on;
+      idle = sym at.stands.left ∙ found.idle;
+      nothing = ap ring_of found.there ∙ none;
+      comes = not-ended last (machine_place job turned before) (stands.each before last there).stands goes;
+    })
 
 -- what was found of a machine behind another, of that one, and whether it waits
 pub record Behind (line : Line) (machine : ℕ) (last observed : Member) (none_comes waits : Bool) : Type 0 where

@@ -66,7 +66,8 @@ pub rounds-finish : (first line line_now line_end : Line) (begun out out_now : S
     → LineReaches line line_now out out_now → line_now ≡ line
     → ((machine : ℕ) → machine < length line.members.items → IsStill line machine)
     → ((job : LineJob) (turned : Turned) → LineRepresents job line_now turned → LineRepresents job line_end turned)
-    → ((job : LineJob) (turned : Turned) → LineRepresents job line_now turned → code ≡ exit_code_at (machine_place job turned (last_machine job)).done.last)
+    → ((job : LineJob) (turned : Turned) → LineRepresents job line_now turned
+    → code ≡ exit_code_at (machine_place job turned (last_machine job)).done.last)
     → LineFinishes first line_end begun out_now code
 rounds-finish first line line_now line_end begun out out_now code went round same still ends codes =
     let both = reach-then first line line_now begun out out_now went round in
@@ -92,7 +93,8 @@ finish-put job begun a b o p code way done =
     rw (done.over job way.turned way.stands).whole at (put-more job begun a b o p way done.to done.goes)
 
 -- the same member set at its place again
-pub stands-again : (job : LineJob) (line : Line) (turned : Turned) (place : ℕ) (found now : Member) → slice_get line.members.items place ≡ Some found → now ≡ found
+pub stands-again : (job : LineJob) (line : Line) (turned : Turned) (place : ℕ) (found now : Member) → slice_get line.members.items place ≡ Some found
+    → now ≡ found
     → LineRepresents job line turned → LineRepresents job (with_member line place now) turned
 stands-again job line turned place found now there same stands =
     let items = line.members.items in
@@ -112,7 +114,8 @@ pub prefixes : (job : LineJob) (line : Line) (turned : Turned) → LineRepresent
     → (rest : List ℕ) × (stream job machine ≡ put_in (machine_place job turned machine) ++ rest)
 prefixes job line turned stands machine = stream-is job stands.job_is machine (turned machine)
 
-pub wholes : (job : LineJob) (line : Line) (turned : Turned) → LineRepresents job line turned → (machine : ℕ) → PlaceHasEnded (machine_place job turned machine)
+pub wholes : (job : LineJob) (line : Line) (turned : Turned) → LineRepresents job line turned → (machine : ℕ)
+    → PlaceHasEnded (machine_place job turned machine)
     → put_in (machine_place job turned machine) ≡ stream job machine
 wholes job line turned stands machine ended =
     let run = follows job stands.job_is machine (turned machine) in

@@ -37,10 +37,11 @@ write-puts devices core port byte suit =
     ]
 
 one-more : (write : ℕ × ℕ) (writes : List (ℕ × ℕ)) → handed_in (write ∷ []) ++ handed_in writes ≡ handed_in (write ∷ writes)
-one-more write writes = elim (write.0 == 0x18) as (λ b. cond b (write.1 ∷ []) [] ++ handed_in writes ≡ cond b (write.1 ∷ handed_in writes) (handed_in writes)) [
-  | true ↦ refl
-  | false ↦ refl
-]
+one-more write writes = elim (write.0 == 0x18) as
+    (λ b. cond b (write.1 ∷ []) [] ++ handed_in writes ≡ cond b (write.1 ∷ handed_in writes) (handed_in writes)) [
+      | true ↦ refl
+      | false ↦ refl
+    ]
 
 write-adds : (changes done : List Change) (write : ℕ × ℕ) (writes : List (ℕ × ℕ)) (all : List ℕ) → put_by done ≡ handed_in (write ∷ [])
     → put_by changes ++ handed_in (write ∷ writes) ≡ all → put_by (changes ++ done) ++ handed_in writes ≡ all
@@ -55,10 +56,12 @@ instruction-puts devices core suit =
     sym (append-nil (put_by (instruction_effect devices core).changes))
     ∙ (instruction-holds (λ changes writes. put_by changes ++ handed_in writes ≡ handed_on core) FilesSuit
     (λ devices core_now port byte changes writes suit so_far. (
-      write-adds changes (effect devices core_now port byte).changes (port, byte) writes (handed_on core) (write-puts devices core_now port byte suit) so_far,
+      write-adds changes (effect devices core_now port byte).changes (port, byte) writes (handed_on core)
+          (write-puts devices core_now port byte suit) so_far,
       (effect-keeps devices core_now port byte).suit suit,
     )) devices core suit
-    (elim (opcode_at core == 0) as (λ b. handed_in (cond b [] (writes_in (begun core).access)) ≡ cond b [] (handed_in (writes_in (begun core).access)))
+    (elim (opcode_at core == 0) as
+    (λ b. handed_in (cond b [] (writes_in (begun core).access)) ≡ cond b [] (handed_in (writes_in (begun core).access)))
     [ true ↦ refl | false ↦ refl ])).0
 
 pub rests-put : (held : Devices) (devices : DeviceState) (core : Core) → Rests held devices

@@ -33,7 +33,8 @@ ran-stands less done pending_inputs core held left is_done is_left =
 
 pub run-stands : (budget : ℕ) (machine : Machine) (now : Place) (core : Core) (held : Devices) (left : ℕ) → 0 < machine.left
     → MachineRepresents machine now
-    → MachineHasDone core held (instruction_effect now.done.last.devices machine.core) → left ≡ cond (opcode_at machine.core == 0) 0 (machine.left - 1)
+    → MachineHasDone core held (instruction_effect now.done.last.devices machine.core)
+    → left ≡ cond (opcode_at machine.core == 0) 0 (machine.left - 1)
     → MachineRepresents (machine_of core held left) (turn budget now)
 run-stands budget machine now core held left some stands done is_left =
     rw (run-turn budget machine now some stands)
@@ -92,14 +93,16 @@ counted-same (OfArgument byte kind) state = (refl, refl)
 counted-same (OfEvent event) state = (refl, refl)
 
 -- a machine that is given what comes next
-pub record IsGiven (machine : Machine) (now : Place) (pending_input : PendingInput) (pending_inputs : List PendingInput) (byte : ConsoleByte) : Type 0 where
+pub record IsGiven (machine : Machine) (now : Place) (pending_input : PendingInput) (pending_inputs : List PendingInput)
+    (byte : ConsoleByte) : Type 0 where
   pub stands : MachineRepresents machine now
   pub idle : machine.left ≡ 0
   pub pending_inputs_are : now.pending_inputs ≡ pending_input ∷ pending_inputs
   pub bytes_are : console_byte_of pending_input ≡ Some byte
   pub goes_on : is_over now.done.last ≡ false
 
-pub given-begins : (budget : ℕ) (machine : Machine) (now : Place) (pending_input : PendingInput) (pending_inputs : List PendingInput) (byte : ConsoleByte)
+pub given-begins : (budget : ℕ) (machine : Machine) (now : Place) (pending_input : PendingInput) (pending_inputs : List PendingInput)
+    (byte : ConsoleByte)
     → IsGiven machine now pending_input pending_inputs byte → (held : Devices) (address : ℕ) → Rests held (holding_byte byte now.done.last.devices)
     → address ≡ stored_short (holding_byte byte now.done.last.devices).history 0x10
     → Begins budget machine.core held address machine.left (turn budget now)

@@ -1,5 +1,5 @@
 -- A new line represents no turns.
-use Rattle.uxn_line.proofs.Common.{◌≡◌, ◌≢◌, ℕ, zero, suc, ◌-◌, ◌<◌, ◌↔◌, inl, inr, Bool, true, false, List, [], ◌∷◌, ◌++◌, take, get_or, length}
+use Rattle.uxn_line.proofs.Common.{◌≡◌, ◌≢◌, ℕ, zero, suc, ◌<◌, ◌↔◌, inl, inr, Bool, true, false, List, [], ◌∷◌, ◌++◌, get_or, length}
 use Rattle.uxn_line.proofs.Common.{refl, sym, ap, subst, ◌∙◌, arith, Some, Result, Ok, Err, IfOk, slice_get, false≢true, cases_eq, Buffer, buffer}
 use Rattle.uxn_line.proofs.Common.{ByteList, bytes_in, ScriptView, Clock, Member, pending_inputs_of, LineJob, script_at, rom_at, first_place, stream}
 use Rattle.uxn_line.proofs.Common.{MemberAt, none_turned, Between, RingBefore, InLine}
@@ -8,17 +8,16 @@ use Rattle.std.specs.Prelude.{slice_index_or}
 use Rattle.std.specs.declared.alloc.AllocError.{AllocError}
 use Rattle.std.proofs.lemmas.List.{get_or-map}
 use Rattle.circular_buffer.proofs.Places.{slice_get-last, slice_get-push}
-use Rattle.uxn_line.proofs.Coming.{all-inputs, length-inputs}
+use Rattle.uxn_line.proofs.Common.{inputs}
+use Rattle.uxn_line.proofs.Coming.{all-inputs, inputs-some}
 
 -- nothing was given yet
 new-ring : (job : LineJob) (machine : ℕ) (ring : List ℕ) → ring ≡ [] → RingBefore job none_turned machine ring
 new-ring job zero ring none = none
 new-ring job (suc before) ring none =
-    let total = length (pending_inputs_of (script_at job (suc before))) in
-    let zero_given : total - total ≡ 0 = omega arith in
     let between : Between job before 0 0 ring = record {
       dropped = λ ended. none;
-      written = λ goes. ap (λ r. [] ++ r) (sym none) ∙ ap (λ n. take n (stream job before) ++ ring) (sym zero_given);
+      to_come = λ goes rest whole. inl (all-inputs job before ∙ ap inputs whole ∙ ap (λ r. inputs (r ++ rest)) (sym none));
     } in
     between
 
@@ -42,7 +41,8 @@ abbrev pub IsNewAt : ScriptView → ℕ → List ℕ → ℕ → Member → Type
 IsNewAt script budget rom machine member = (job : LineJob) → job.script ≡ script → job.budget ≡ budget → rom_at job machine ≡ rom
     → InLine job none_turned machine member
 
-pub new-first : (result : Result Member AllocError) (script : ScriptView) (budget machine : ℕ) (rom : List ℕ) (texts : List (List ℕ)) (clock : Clock) (nothing : Bool)
+pub new-first : (result : Result Member AllocError) (script : ScriptView) (budget machine : ℕ) (rom : List ℕ) (texts : List (List ℕ)) (clock : Clock)
+    (nothing : Bool)
     → machine ≡ 0 → texts ≡ script.arguments → clock ≡ script.clock → (nothing ≡ true) ↔ (pending_inputs_of script ≡ [])
     → IfOk result (IsNew budget rom texts clock nothing) → IfOk result (λ member. member.ring ≡ buffer [] 256)
     → IfOk result (IsNewAt script budget rom machine)
@@ -59,10 +59,8 @@ pub new-behind : (result : Result Member AllocError) (script : ScriptView) (budg
 new-behind (Err error) script budget machine rom clock behind same new ring = tt
 new-behind (Ok member) script budget zero rom clock behind same new ring = absurd (behind refl)
 new-behind (Ok member) script budget (suc before) rom clock behind same new ring = λ job script_is budget_is rom_is.
-    let some : length (pending_inputs_of (script_at job (suc before))) ≡ suc (length (stream job before))
-    = ap length (all-inputs job before) ∙ length-inputs (stream job before) in
     let at = new (script_at job (suc before)) refl (sym same)
-    (λ e. absurd (false≢true e), λ none. (let empty : length (pending_inputs_of (script_at job (suc before))) ≡ 0 = ap length none in absurd (omega (arith, some, empty)))) in
+    (λ e. absurd (false≢true e), λ none. absurd (inputs-some (stream job before) (sym (all-inputs job before) ∙ none))) in
     let R : ℕ → Type 0 = λ b. MemberAt member (first_place b rom (script_at job (suc before))) in
     let S : List ℕ → Type 0 = λ r. MemberAt member (first_place job.budget r (script_at job (suc before))) in
     new-in-line job (suc before) member (subst S (sym rom_is) (subst R (sym budget_is) at)) ring
@@ -75,7 +73,8 @@ rom-there roms place rom within is =
 
 -- one machine more is in line
 pub member-more : (job : LineJob) (items : List Member) (member : Member) (count : ℕ) → length items ≡ count
-    → ((machine : ℕ) (other : Member) → slice_get items machine ≡ Some other → InLine job none_turned machine other) → InLine job none_turned count member
+    → ((machine : ℕ) (other : Member) → slice_get items machine ≡ Some other → InLine job none_turned machine other)
+    → InLine job none_turned count member
     → (machine : ℕ) (other : Member) → slice_get (items ++ member ∷ []) machine ≡ Some other → InLine job none_turned machine other
 member-more job items member count size each last machine other there = elim (cases_eq machine (length items)) [
   | inl here ↦

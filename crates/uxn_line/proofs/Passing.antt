@@ -6,7 +6,7 @@ use Rattle.uxn_line.proofs.Common.{member_has_ended, IsRunning, RunsAt, machine_
 use Rattle.uxn_line.specs.Machines.{handed_on}
 use Rattle.uxn_line.proofs.Working.{pair-less, taken-pays}
 use Rattle.uxn_line.proofs.Standings.{not-ended, goes-on}
-use Rattle.uxn_line.proofs.Running.{found-is, RanFrom, Handed, RunsIn, with_member, run-came, wrote-apart, leads-nowhere}
+use Rattle.uxn_line.proofs.Running.{found-is, RanFrom, Handed, Moves, with_member, run-turns, move-came, still-came, wrote-apart}
 
 -- the next machine, as it is found, and what it is once it was handed a byte
 pub record Taken (byte : ℕ) (line : Line) (machine : ℕ) (next now : Member) : Type 0 where
@@ -48,16 +48,19 @@ taken-handed byte line machine next now taken within room =
 abbrev pub passed : Line → ℕ → Member → Member → Line
 passed line machine next_now now = with_member (with_member line (suc machine) next_now) machine now
 
-pub pass-runs : (byte : ℕ) (line : Line) (machine : ℕ) (member now next next_now : Member) → RunsAt (byte ∷ []) line machine member → RanFrom member now
-    → Taken byte line machine next next_now → RunsIn line (passed line machine next_now now) machine member now
-pass-runs byte line machine member now next next_now found ran taken =
+pub pass-moves : (byte : ℕ) (line : Line) (machine : ℕ) (member now next next_now : Member) → RunsAt (byte ∷ []) line machine member
+    → Taken byte line machine next next_now → Moves line (passed line machine next_now now) machine member now (handed_on member.machine.core)
+pass-moves byte line machine member now next next_now found taken =
     let items = line.members.items in
     let middle = slice_set items (suc machine) next_now in
     let behind : suc machine ≢ machine = λ same. omega (arith, same) in
     record {
       at = found.there;
-      here = slice_get-set_same middle machine now (slice_get_within middle machine member (slice_get-set_other items (suc machine) machine next_now (λ same. behind (sym same)) ∙ found.there));
-      apart = λ other apart further. slice_get-set_other middle machine other now apart ∙ slice_get-set_other items (suc machine) other next_now further;
+      here = slice_get-set_same middle machine now
+          (slice_get_within middle machine member
+          (slice_get-set_other items (suc machine) machine next_now (λ same. behind (sym same)) ∙ found.there));
+      apart = λ other apart further. slice_get-set_other middle machine other now apart
+          ∙ slice_get-set_other items (suc machine) other next_now further;
       behind = λ last at_last.
           let is = sym (slice_get-set_same items (suc machine) next_now (slice_get_within items (suc machine) next taken.there))
           ∙ sym (slice_get-set_other middle machine (suc machine) now behind) ∙ at_last in
@@ -71,22 +74,25 @@ pass-runs byte line machine member now next next_now found ran taken =
           );
       count = length-set middle machine now ∙ length-set items (suc machine) next_now;
       budget = refl;
-      script = refl;
-      ran = ran;
     }
 
-pub pass-came : (byte : ℕ) (line : Line) (machine : ℕ) (member now next next_now : Member) → RunsAt (byte ∷ []) line machine member → RanFrom member now
+pub pass-came : (byte : ℕ) (line : Line) (machine : ℕ) (member now next next_now : Member) → RunsAt (byte ∷ []) line machine member
+    → RanFrom member now
     → Taken byte line machine next next_now → Came machine Ran [] line (passed line machine next_now now)
 pass-came byte line machine member now next next_now found ran taken =
     let there = slice_get_within line.members.items (suc machine) next taken.there in
-    run-came line (passed line machine next_now now) machine member now [] (pass-runs byte line machine member now next next_now found ran taken)
-    (λ job turned stands held.
+    let line_now = passed line machine next_now now in
+    move-came line line_now machine member now Ran (handed_on member.machine.core) []
+    (pass-moves byte line machine member now next next_now found taken) (λ turned. refl) refl
+    (λ job turned stands. run-turns job line line_now turned machine member now [] stands found.there ran refl
+    (λ held.
     let inline = stands.each (suc machine) next taken.there in
     let room = taken.room (goes-on next (machine_place job turned (suc machine)) inline.stands held.goes_on) in
     let full : length next.ring.items ≡ 256 = ap (λ o. length (ring_of o)) (sym taken.there) ∙ held.full in
     omega (arith, room, full, inline.room))
-    (λ job turned stands puts. (let count = stands.machines in wrote-apart job turned machine (λ last. omega (arith, last, there, count))))
-    (pair-less line.budget (length line.input_queue) line.members.items machine member now next next_now found.there taken.there (ran.work line.budget)
+    (λ puts. let count = stands.machines in wrote-apart job turned machine (λ last. omega (arith, last, there, count))))
+    (pair-less line.budget (length line.input_queue) line.members.items machine member now next next_now found.there taken.there
+    (ran.work line.budget)
     (taken-pays line.budget byte next next_now taken.over taken.kept))
 
 -- the machine that is found again once the byte was handed on
@@ -103,25 +109,20 @@ pub held-came : (byte : ℕ) (line : Line) (machine : ℕ) (next : Member) → I
     → Came machine Held [] line line
 held-came byte line machine next running there goes full =
     let within = slice_get_within line.members.items (suc machine) next there in
+    still-came line machine Held (λ turned. refl) refl (λ job turned stands.
+    let own = (stands.each machine running.0 running.1.there).stands in
+    let inline = stands.each (suc machine) next there in
+    let count = stands.machines in
+    let some = running.1.vector in
+    let left = own.stands.left in
+    let length_is : length next.ring.items ≡ 256 = omega (arith, full, inline.room, inline.within) in
     record {
-      cause = λ job turned stands.
-          let own = (stands.each machine running.0 running.1.there).stands in
-          let inline = stands.each (suc machine) next there in
-          let count = stands.machines in
-          let some = running.1.vector in
-          let left = own.stands.left in
-          let length_is : length next.ring.items ≡ 256 = omega (arith, full, inline.room, inline.within) in
-          record {
-            vector = omega (arith, some, left);
-            writes = λ none. (let e = sym (ap handed_on (sym own.stands.core) ∙ running.1.writes) ∙ none in cc);
-            there = omega (arith, within, count);
-            goes_on = not-ended next (machine_place job turned (suc machine)) inline.stands goes;
-            full = ap (λ o. length (ring_of o)) there ∙ length_is;
-          };
-      leads = leads-nowhere line;
-      works = refl;
-      machines = refl;
-    }
+      vector = omega (arith, some, left);
+      writes = λ none. (let e = sym (ap handed_on (sym own.stands.core) ∙ running.1.writes) ∙ none in cc);
+      there = omega (arith, within, count);
+      goes_on = not-ended next (machine_place job turned (suc machine)) inline.stands goes;
+      full = ap (λ o. length (ring_of o)) there ∙ length_is;
+    })
 
 -- the next machine, as it was looked at and as it is found, is one; and its ring is not full
 pub next-is : (line : Line) (machine : ℕ) (observed found : Member) → machine + 1 < length line.members.items
@@ -131,7 +132,8 @@ next-is line machine observed found within read again =
     let second = read-behind line.members.items machine found within again in
     cc
 
-pub room-left : (member : Member) (full : Bool) → (member_has_ended member ≡ false → (full ≡ true) ↔ (member.ring.capacity ≤ length member.ring.items))
+pub room-left : (member : Member) (full : Bool)
+    → (member_has_ended member ≡ false → (full ≡ true) ↔ (member.ring.capacity ≤ length member.ring.items))
     → full ≡ false → member_has_ended member ≡ false → length member.ring.items < member.ring.capacity
 room-left member full test not_full goes =
     let h : (member.ring.capacity ≤ length member.ring.items) → ⊥ = λ past. (let e = (test goes).1 past in cc) in omega (arith, h)

@@ -1,12 +1,15 @@
 -- A machine of a line that ran an instruction.
-use Rattle.uxn_line.proofs.Common.{◌≡◌, ◌≢◌, ℕ, zero, suc, ◌-◌, ◌<◌, ◌≤◌, inl, inr, true, false, List, [], ◌++◌, take, length, get_or, refl, sym, ap}
+use Rattle.uxn_line.proofs.Common.{◌≡◌, ◌≢◌, ℕ, zero, suc, ◌<◌, ◌≤◌, inl, inr, true, false, List, [], ◌++◌, length, get_or, refl, sym, ap}
 use Rattle.uxn_line.proofs.Common.{subst, ◌∙◌, arith, append-nil, slice_get-set_other, slice_get-set_same, cases_Bool, cases_eq, Some, slice_get}
 use Rattle.uxn_line.proofs.Common.{length-set, get_or_from_slice_get, slice_get_within, Buffer, Line, Ran, Member, Place, PlaceHasEnded, turn, put_in}
-use Rattle.uxn_line.proofs.Common.{pending_inputs_of, LineJob, script_at, stream, MemberAt, member_has_ended, IsRunning, RunsAt, KeepsRing, Turned}
-use Rattle.uxn_line.proofs.Common.{one_more, machine_place, given_after, Between, RingBefore, InLine, LineRepresents, last_machine, written_in}
+use Rattle.uxn_line.proofs.Common.{LineJob, MemberAt, member_has_ended, IsRunning, RunsAt, KeepsRing, Turned}
+use Rattle.uxn_line.proofs.Common.{PendingInput, one_more, machine_place, ComeAfter, Between, RingBefore, InLine, LineRepresents, last_machine}
+use Rattle.uxn_line.proofs.Common.{written_in}
 use Rattle.uxn_line.proofs.Common.{MachineIsHeld, Leads, Came, work, work_left}
 use Rattle.std.specs.Vec.{with_item}
+use Rattle.uxn_line.specs.declared.line.Moved.{Moved}
 use Rattle.uxn_line.specs.Machines.{handed_on}
+use Rattle.uxn_line.specs.Moves.{Cause, turned_by, is_move}
 use Rattle.uxn_line.specs.MemberTurns.{HasRun}
 use Rattle.uxn_line.proofs.Turned.{run-pending_inputs}
 use Rattle.uxn_line.proofs.Working.{ring-within, set-less}
@@ -61,8 +64,9 @@ running-goes member place at some ended = let l = at.stands.left in omega (arith
 -- what is left in the ring of a machine that had one more turn, where its run goes on
 abbrev pub RingLeft : LineJob → Turned → ℕ → List ℕ → Type 0
 RingLeft job turned zero items = items ≡ []
-RingLeft job turned (suc before) items = (PlaceHasEnded (turn job.budget (machine_place job turned (suc before))) → ⊥)
-    → put_in (machine_place job turned before) ≡ take (given_after job (suc before) (suc (turned (suc before)))) (stream job before) ++ items
+RingLeft job turned (suc before) items =
+    let next = turn job.budget (machine_place job turned (suc before)) in
+    (PlaceHasEnded next → ⊥) → ComeAfter job before (turned before) items next.pending_inputs
 
 -- so it is in line
 module _ (job : LineJob) (turned : Turned) (member now : Member) (items : List ℕ) (ring : KeepsRing member now items) where
@@ -73,8 +77,9 @@ module _ (job : LineJob) (turned : Turned) (member now : Member) (items : List �
       let next = turn job.budget (machine_place job turned (suc before)) in
       let grown : Between job before (turned before) (suc (turned (suc before))) now.ring.items = record {
         dropped = λ ended. ap (λ (r : Buffer ℕ). r.items) (ring.dropped ((ended-is now next at).1 ended));
-        written = λ goes. left goes ∙ ap (λ (r : Buffer ℕ). take (given_after job (suc before) (suc (turned (suc before)))) (stream job before) ++ r.items)
-            (sym (ring.kept (goes-on now next at goes)));
+        to_come = λ goes.
+            let P : List ℕ → Type 0 = λ r. ComeAfter job before (turned before) r next.pending_inputs in
+            subst P (sym (ap (λ (r : Buffer ℕ). r.items) (ring.kept (goes-on now next at goes)))) (left goes);
       } in
       rw (more-apart (suc before) turned before (λ same. omega (arith, same))) (rw (more-here (suc before) turned) grown)
 
@@ -95,10 +100,9 @@ run-left job turned zero member now ran inline = inline.ring
 run-left job turned (suc before) member now ran inline = λ goes.
     let place = machine_place job turned (suc before) in
     let between : Between job before (turned before) (turned (suc before)) member.ring.items = inline.ring in
-    let total = length (pending_inputs_of (script_at job (suc before))) in
-    between.written (running-goes member place inline.stands ran.some)
-    ∙ ap (λ g. take (total - length g) (stream job before) ++ member.ring.items)
-    (sym (run-pending_inputs job.budget member.machine place ran.some inline.stands.stands))
+    let P : List PendingInput → Type 0 = λ all. ComeAfter job before (turned before) member.ring.items all in
+    subst P (sym (run-pending_inputs job.budget member.machine place ran.some inline.stands.stands))
+    (between.to_come (running-goes member place inline.stands ran.some))
 
 pub run-own : (job : LineJob) (turned : Turned) (machine : ℕ) (member now : Member) → RanFrom member now → InLine job turned machine member
     → InLine job (one_more machine turned) machine now
@@ -148,94 +152,32 @@ wrote-none job turned machine same = elim (cases_eq (last_machine job) machine) 
 pub leads-nowhere : (line : Line) → Leads (λ turned. turned) [] line line
 leads-nowhere line = λ job turned stands. (stands, sym (append-nil (written_in job turned)))
 
--- a line in which a machine ran
-pub record RunsIn (line line_now : Line) (machine : ℕ) (member now : Member) : Type 0 where
+-- a line with another member at a place, and with this left of its script
+abbrev pub with_member : Line → ℕ → Member → Line
+with_member line machine now = record line { members = with_item line.members machine now }
+
+abbrev pub given_on : Line → ℕ → Member → List PendingInput → Line
+given_on line machine now rest = record (with_member line machine now) { input_queue = rest }
+
+-- a line in which a machine had a turn, and the next one was handed bytes
+pub record Moves (line line_now : Line) (machine : ℕ) (member now : Member) (handed : List ℕ) : Type 0 where
   pub at : slice_get line.members.items machine ≡ Some member
   pub here : slice_get line_now.members.items machine ≡ Some now
   pub apart : (other : ℕ) → other ≢ machine → other ≢ suc machine → slice_get line_now.members.items other ≡ slice_get line.members.items other
   pub behind : (next : Member) → slice_get line_now.members.items (suc machine) ≡ Some next
       → (was : Member) × (slice_get line.members.items (suc machine) ≡ Some was)
-      × (length was.ring.items ≤ 256 → was.ring.capacity ≡ 256 → Handed (handed_on member.machine.core) was next)
+      × (length was.ring.items ≤ 256 → was.ring.capacity ≡ 256 → Handed handed was next)
   pub count : length line_now.members.items ≡ length line.members.items
   pub budget : line_now.budget ≡ line.budget
-  pub script : line_now.input_queue ≡ line.input_queue
-  pub ran : RanFrom member now
 
-pub run-puts : (job : LineJob) (line line_now : Line) (turned : Turned) (machine : ℕ) (member now : Member) → LineRepresents job line turned
-    → RunsIn line line_now machine member now
-    → put_in (turn job.budget (machine_place job turned machine)) ≡ put_in (machine_place job turned machine) ++ handed_on member.machine.core
-run-puts job line line_now turned machine member now stands runs =
-    runs.ran.ran.put job.budget (machine_place job turned machine) (stands.each machine member runs.at).stands
-
-run-script : (job : LineJob) (line : Line) (turned : Turned) (machine : ℕ) (member : Member) → LineRepresents job line turned
-    → MemberAt member (machine_place job turned machine) → 0 < member.machine.left → line.input_queue ≡ (machine_place job (one_more machine turned) 0).pending_inputs
-run-script job line turned machine member stands at some = elim (cases_eq 0 machine) [
-  | inl first ↦
-      let P : ℕ → Type 0 = λ m. (machine_place job (one_more machine turned) m).pending_inputs ≡ (machine_place job turned m).pending_inputs in
-      stands.script ∙ sym (subst P (sym first) (ap (λ (p : Place). p.pending_inputs) (place-more job machine turned)
-      ∙ run-pending_inputs job.budget member.machine (machine_place job turned machine) some at.stands))
-  | inr apart ↦ stands.script ∙ ap (λ (p : Place). p.pending_inputs) (sym (place-apart job machine turned 0 apart))
-]
-
-pub run-stands : (job : LineJob) (line line_now : Line) (turned : Turned) (machine : ℕ) (member now : Member) → LineRepresents job line turned
-    → RunsIn line line_now machine member now → LineRepresents job line_now (one_more machine turned)
-run-stands job line line_now turned machine member now stands runs =
-    let inline = stands.each machine member runs.at in
-    stands-more job turned machine line line_now stands (record {
-      member = now;
-      here = runs.here;
-      own = run-own job turned machine member now runs.ran inline;
-      behind = λ next at_next.
-          let was = runs.behind next at_next in
-          let in_line = stands.each (suc machine) was.0 was.1 in
-          put-behind job turned machine (handed_on member.machine.core) was.0 next (was.2 in_line.within in_line.room)
-          (run-puts job line line_now turned machine member now stands runs) in_line;
-      apart = runs.apart;
-      count = runs.count;
-      budget = runs.budget;
-      script = runs.script ∙ run-script job line turned machine member stands inline.stands runs.ran.some;
-    })
-
--- a turn of it is a run, where it is not held
-pub run-came : (line line_now : Line) (machine : ℕ) (member now : Member) (bytes : List ℕ) → RunsIn line line_now machine member now
-    → ((job : LineJob) (turned : Turned) → LineRepresents job line turned → MachineIsHeld job line turned machine → ⊥)
-    → ((job : LineJob) (turned : Turned) → LineRepresents job line turned
-    → put_in (turn job.budget (machine_place job turned machine)) ≡ put_in (machine_place job turned machine) ++ handed_on member.machine.core
-    → written_in job (one_more machine turned) ≡ written_in job turned ++ bytes)
-    → work_left line_now < work_left line → Came machine Ran bytes line line_now
-run-came line line_now machine member now bytes runs free wrote less = record {
-  cause = λ job turned stands.
-      let left = (stands.each machine member runs.at).stands.stands.left in
-      record { vector = omega (arith, left, runs.ran.some); free = free job turned stands };
-  leads = λ job turned stands. (
-    run-stands job line line_now turned machine member now stands runs,
-    wrote job turned stands (run-puts job line line_now turned machine member now stands runs),
-  );
-  works = less;
-  machines = runs.count;
-}
-
--- a line with another member at a place
-abbrev pub with_member : Line → ℕ → Member → Line
-with_member line machine now = record line { members = with_item line.members machine now }
-
--- the member that was found where a machine runs
-pub found-running : (bytes : List ℕ) (line : Line) (machine : ℕ) (found : Member) → IsRunning bytes line machine
-    → found ≡ get_or line.members.items machine found → RunsAt bytes line machine found
-found-running bytes line machine found running read =
-    rw (found-is line.members.items machine found running.0 read running.1.there) running.1
-
--- a machine ran, and no other was handed anything
-pub one-came : (line : Line) (machine : ℕ) (member now : Member) (bytes : List ℕ) → slice_get line.members.items machine ≡ Some member → RanFrom member now
-    → ((next : Member) → slice_get line.members.items (suc machine) ≡ Some next → length next.ring.items ≤ 256 → Handed (handed_on member.machine.core) next next)
-    → ((job : LineJob) (turned : Turned) → LineRepresents job line turned → MachineIsHeld job line turned machine → ⊥)
-    → ((job : LineJob) (turned : Turned) → LineRepresents job line turned
-    → put_in (turn job.budget (machine_place job turned machine)) ≡ put_in (machine_place job turned machine) ++ handed_on member.machine.core
-    → written_in job (one_more machine turned) ≡ written_in job turned ++ bytes)
-    → Came machine Ran bytes line (with_member line machine now)
-one-came line machine member now bytes there ran behind free wrote =
+-- the same where none was handed anything
+pub one-moves : (line : Line) (machine : ℕ) (member now : Member) (rest : List PendingInput) (handed : List ℕ)
+    → slice_get line.members.items machine ≡ Some member
+    → ((next : Member) → slice_get line.members.items (suc machine) ≡ Some next → length next.ring.items ≤ 256 → Handed handed next next)
+    → Moves line (given_on line machine now rest) machine member now handed
+one-moves line machine member now rest handed there behind =
     let items = line.members.items in
-    run-came line (with_member line machine now) machine member now bytes (record {
+    record {
       at = there;
       here = slice_get-set_same items machine now (slice_get_within items machine member there);
       apart = λ other apart further. slice_get-set_other items machine other now apart;
@@ -244,15 +186,101 @@ one-came line machine member now bytes there ran behind free wrote =
           (next, was, λ full room. behind next was full);
       count = length-set items machine now;
       budget = refl;
-      script = refl;
-      ran = ran;
-    }) free wrote (set-less line.budget (length line.input_queue) items machine member now there (ran.work line.budget))
+    }
+
+-- what a turn is that moves a machine of a line, for the numbers of turns that the line represents
+pub record TurnsIn (job : LineJob) (turned : Turned) (line line_now : Line) (machine : ℕ) (now : Member) (moved : Moved) (handed bytes : List ℕ)
+    : Type 0 where
+  pub cause : Cause job line turned machine moved
+  pub script : line_now.input_queue ≡ (machine_place job (one_more machine turned) 0).pending_inputs
+  pub own : InLine job (one_more machine turned) machine now
+  pub put : put_in (turn job.budget (machine_place job turned machine)) ≡ put_in (machine_place job turned machine) ++ handed
+  pub wrote : written_in job (one_more machine turned) ≡ written_in job turned ++ bytes
+
+-- whatever moved a machine
+pub move-came : (line line_now : Line) (machine : ℕ) (member now : Member) (moved : Moved) (handed bytes : List ℕ)
+    → Moves line line_now machine member now handed → ((turned : Turned) → turned_by moved machine turned ≡ one_more machine turned)
+    → is_move moved ≡ true
+    → ((job : LineJob) (turned : Turned) → LineRepresents job line turned → TurnsIn job turned line line_now machine now moved handed bytes)
+    → work_left line_now < work_left line → Came machine moved bytes line line_now
+move-came line line_now machine member now moved handed bytes moves one is turns less = record {
+  cause = λ job turned stands. (turns job turned stands).cause;
+  leads = λ job turned stands.
+      let turns_now = turns job turned stands in
+      rw (one turned) (
+        stands-more job turned machine line line_now stands (record {
+          member = now;
+          here = moves.here;
+          own = turns_now.own;
+          behind = λ next at_next.
+              let was = moves.behind next at_next in
+              let in_line = stands.each (suc machine) was.0 was.1 in
+              put-behind job turned machine handed was.0 next (was.2 in_line.within in_line.room) turns_now.put in_line;
+          apart = moves.apart;
+          count = moves.count;
+          budget = moves.budget;
+          script = turns_now.script;
+        }),
+        turns_now.wrote,
+      );
+  works = rw is less;
+  machines = moves.count;
+}
+
+-- and where none moved
+pub still-came : (line : Line) (machine : ℕ) (moved : Moved) → ((turned : Turned) → turned_by moved machine turned ≡ turned) → is_move moved ≡ false
+    → ((job : LineJob) (turned : Turned) → LineRepresents job line turned → Cause job line turned machine moved) → Came machine moved [] line line
+still-came line machine moved none is cause = record {
+  cause = cause;
+  leads = λ job turned stands. rw (none turned) (leads-nowhere line job turned stands);
+  works = rw is refl;
+  machines = refl;
+}
+
+-- a machine ran that is not held
+run-script : (job : LineJob) (line : Line) (turned : Turned) (machine : ℕ) (member : Member) → LineRepresents job line turned
+    → MemberAt member (machine_place job turned machine) → 0 < member.machine.left
+    → line.input_queue ≡ (machine_place job (one_more machine turned) 0).pending_inputs
+run-script job line turned machine member stands at some = elim (cases_eq 0 machine) [
+  | inl first ↦
+      let P : ℕ → Type 0 = λ m. (machine_place job (one_more machine turned) m).pending_inputs ≡ (machine_place job turned m).pending_inputs in
+      stands.script ∙ sym (subst P (sym first) (ap (λ (p : Place). p.pending_inputs) (place-more job machine turned)
+      ∙ run-pending_inputs job.budget member.machine (machine_place job turned machine) some at.stands))
+  | inr apart ↦ stands.script ∙ ap (λ (p : Place). p.pending_inputs) (sym (place-apart job machine turned 0 apart))
+]
+
+pub run-turns : (job : LineJob) (line line_now : Line) (turned : Turned) (machine : ℕ) (member now : Member) (bytes : List ℕ)
+    → LineRepresents job line turned → slice_get line.members.items machine ≡ Some member → RanFrom member now
+    → line_now.input_queue ≡ line.input_queue → (MachineIsHeld job line turned machine → ⊥)
+    → (put_in (turn job.budget (machine_place job turned machine)) ≡ put_in (machine_place job turned machine) ++ handed_on member.machine.core
+    → written_in job (one_more machine turned) ≡ written_in job turned ++ bytes)
+    → TurnsIn job turned line line_now machine now Ran (handed_on member.machine.core) bytes
+run-turns job line line_now turned machine member now bytes stands there ran script free wrote =
+    let inline = stands.each machine member there in
+    let left = inline.stands.stands.left in
+    let put = ran.ran.put job.budget (machine_place job turned machine) inline.stands in
+    record {
+      cause = record { vector = omega (arith, left, ran.some); free = free };
+      script = script ∙ run-script job line turned machine member stands inline.stands ran.some;
+      own = run-own job turned machine member now ran inline;
+      put = put;
+      wrote = wrote put;
+    }
+
+-- the member that was found where a machine runs
+pub found-running : (bytes : List ℕ) (line : Line) (machine : ℕ) (found : Member) → IsRunning bytes line machine
+    → found ≡ get_or line.members.items machine found → RunsAt bytes line machine found
+found-running bytes line machine found running read =
+    rw (found-is line.members.items machine found running.0 read running.1.there) running.1
 
 -- one that writes nothing
 pub quiet-came : (line : Line) (machine : ℕ) (member now : Member) → RunsAt [] line machine member → RanFrom member now
     → Came machine Ran [] line (with_member line machine now)
 quiet-came line machine member now found ran =
-    one-came line machine member now [] found.there ran (λ next there full. rw found.writes (handed-nothing next full))
-    (λ job turned stands held. held.writes (ap handed_on (sym (stands.each machine member found.there).stands.stands.core) ∙ found.writes))
-    (λ job turned stands puts.
-    wrote-none job turned machine (puts ∙ ap (λ bytes. put_in (machine_place job turned machine) ++ bytes) found.writes ∙ append-nil _))
+    let handed = handed_on member.machine.core in
+    move-came line (with_member line machine now) machine member now Ran handed [] (one-moves line machine member now line.input_queue handed
+    found.there (λ next there full. rw found.writes (handed-nothing next full))) (λ turned. refl) refl
+    (λ job turned stands. run-turns job line (with_member line machine now) turned machine member now [] stands found.there ran refl
+    (λ held. held.writes (ap handed_on (sym (stands.each machine member found.there).stands.stands.core) ∙ found.writes))
+    (λ puts. wrote-none job turned machine (puts ∙ ap (λ bytes. put_in (machine_place job turned machine) ++ bytes) found.writes ∙ append-nil _)))
+    (set-less line.budget (length line.input_queue) line.members.items machine member now found.there (ran.work line.budget))

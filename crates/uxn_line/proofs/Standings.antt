@@ -1,9 +1,10 @@
 -- A line in which one machine had a turn more represents one more of it.
-use Rattle.uxn_line.proofs.Common.{◌≡◌, ◌≢◌, ℕ, zero, suc, ◌==◌, ◌&&◌, ◌||◌, ◌↔◌, inl, inr, true, false, cond, List, [], ◌++◌, take, length, refl}
+use Rattle.uxn_line.proofs.Common.{◌≡◌, ◌≢◌, ℕ, zero, suc, ◌==◌, ◌&&◌, ◌||◌, ◌↔◌, inl, inr, true, false, cond, List, [], ◌++◌, length, refl}
 use Rattle.uxn_line.proofs.Common.{sym, ap, ◌∙◌, arith, append_assoc, cases_Bool, cases_eq, Some, slice_get, nat_tests, Line, Member, Place}
-use Rattle.uxn_line.proofs.Common.{PlaceHasEnded, turn, put_in, LineJob, stream, after, MemberAt, member_has_ended, Turned, one_more, machine_place}
-use Rattle.uxn_line.proofs.Common.{given_after, Between, InLine, LineRepresents}
+use Rattle.uxn_line.proofs.Common.{PlaceHasEnded, turn, put_in, LineJob, after, MemberAt, member_has_ended, Turned, one_more, machine_place}
+use Rattle.uxn_line.proofs.Common.{Between, InLine, LineRepresents}
 use Rattle.std.proofs.lemmas.Bool.{or_cases, or_right}
+use Rattle.uxn_line.proofs.Coming.{come-more}
 
 -- one more turn
 pub more-here : (machine : ℕ) (turned : Turned) → one_more machine turned machine ≡ suc (turned machine)
@@ -14,7 +15,8 @@ pub more-apart : (machine : ℕ) (turned : Turned) (other : ℕ) → other ≢ m
 more-apart machine turned other apart =
     let test : (other == machine) ≡ false = grind (arith, nat_tests, apart) in ap (λ b. cond b (suc (turned other)) (turned other)) test
 
-pub place-more : (job : LineJob) (machine : ℕ) (turned : Turned) → machine_place job (one_more machine turned) machine ≡ turn job.budget (machine_place job turned machine)
+pub place-more : (job : LineJob) (machine : ℕ) (turned : Turned)
+    → machine_place job (one_more machine turned) machine ≡ turn job.budget (machine_place job turned machine)
 place-more job machine turned = ap (after job machine) (more-here machine turned)
 
 pub place-apart : (job : LineJob) (machine : ℕ) (turned : Turned) (other : ℕ) → other ≢ machine
@@ -77,9 +79,9 @@ pub ring-grows : (job : LineJob) (machine count count_now next : ℕ) (ring ring
     → Between job machine count next ring → Between job machine count_now next ring_now
 ring-grows job machine count count_now next ring ring_now bytes drops keeps put between = record {
   dropped = drops;
-  written = λ goes.
-      let given = take (given_after job (suc machine) next) (stream job machine) in
-      put ∙ ap (λ all. all ++ bytes) (between.written goes) ∙ append_assoc given ring bytes ∙ ap (λ r. given ++ r) (sym (keeps goes));
+  to_come = λ goes rest whole.
+      rw (keeps goes) (come-more ring bytes rest (after job (suc machine) next).pending_inputs (between.to_come goes (bytes ++ rest)
+      (whole ∙ ap (λ all. all ++ rest) put ∙ append_assoc (put_in (after job machine count)) bytes rest)));
 }
 
 -- all machines of a line where one had a turn more

@@ -26,13 +26,15 @@ some-byte None some = absurd (cc)
 
 -- the beginning of its vector gives no more and writes nothing
 pub vector-gives : (budget : ℕ) (held : State) (done : Trace) (pending_inputs : List PendingInput)
-    → ((vector_begins budget held done pending_inputs).pending_inputs ≡ pending_inputs) × (put_in (vector_begins budget held done pending_inputs) ≡ put_by done.changes)
+    → ((vector_begins budget held done pending_inputs).pending_inputs ≡ pending_inputs) ×
+    (put_in (vector_begins budget held done pending_inputs) ≡ put_by done.changes)
 unfolding vector_begins
 vector-gives budget held done pending_inputs =
     elim (cases_Bool (stored_short held.devices.history 0x10 == 0)) [ inl none ↦ rw none (refl, refl) | inr some ↦ rw some (refl, refl) ]
 
 -- the giving of what comes next
-module _ (budget : ℕ) (now : Place) (pending_input : PendingInput) (pending_inputs : List PendingInput) (idle : now.left ≡ 0) (are : now.pending_inputs ≡ pending_input ∷ pending_inputs)
+module _ (budget : ℕ) (now : Place) (pending_input : PendingInput) (pending_inputs : List PendingInput) (idle : now.left ≡ 0)
+    (are : now.pending_inputs ≡ pending_input ∷ pending_inputs)
     (goes_on : is_over now.done.last ≡ false) where
   pub turn-gives : (byte : ConsoleByte) → console_byte_of pending_input ≡ Some byte
       → turn budget now ≡ vector_begins budget (holding byte (counted_input pending_input now.done.last)) now.done pending_inputs
@@ -40,7 +42,8 @@ module _ (budget : ℕ) (now : Place) (pending_input : PendingInput) (pending_in
   turn-gives byte is =
       ap (λ left. next_place budget no_outputs left now.done now.pending_inputs) idle
       ∙ ap (λ all. idle_step budget no_outputs now.done all) are
-      ∙ ap (λ b. cond b (place now.done 0 (pending_input ∷ pending_inputs)) (giving_by budget no_outputs pending_input (console_byte_of pending_input) now.done pending_inputs)) goes_on
+      ∙ ap (λ b. cond b (place now.done 0 (pending_input ∷ pending_inputs))
+      (giving_by budget no_outputs pending_input (console_byte_of pending_input) now.done pending_inputs)) goes_on
       ∙ ap (λ o. giving_by budget no_outputs pending_input o now.done pending_inputs) is
 
   pub turn-given : IsForConsole pending_input → ((turn budget now).pending_inputs ≡ pending_inputs) × (put_in (turn budget now) ≡ put_in now)

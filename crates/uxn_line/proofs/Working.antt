@@ -56,7 +56,8 @@ next-less budget before member now last idle goes_on given within fewer =
     given-less budget before before member now goes_on (omega (arith, was, is, fewer)) within
 
 -- where no more may be given to it, it has no more work left
-work-mono : (budget before before_now : ℕ) (member now : Member) → member_has_ended member ≡ member_has_ended now → now.machine.left ≡ member.machine.left
+work-mono : (budget before before_now : ℕ) (member now : Member) → member_has_ended member ≡ member_has_ended now
+    → now.machine.left ≡ member.machine.left
     → still_given before_now now ≤ still_given before member → work budget before_now now ≤ work budget before member
 work-mono budget before before_now member now same left fewer =
     let product = mul-le-mul_right {m = still_given before_now now} {n = still_given before member} (budget + 1) fewer in
@@ -73,7 +74,8 @@ handed-mono budget before before_now byte member less =
     work-mono budget before before_now member (record member { ring = buffer (member.ring.items ++ byte ∷ []) member.ring.capacity }) refl refl
     (omega (arith, longer, less))
 
-works-mono : (budget before before_now : ℕ) (members : List Member) → before_now ≤ before → works budget before_now members ≤ works budget before members
+works-mono : (budget before before_now : ℕ) (members : List Member) → before_now ≤ before
+    → works budget before_now members ≤ works budget before members
 works-mono budget before before_now [] less = omega arith
 works-mono budget before before_now (member ∷ members) less =
     let own = work-mono budget before before_now member member refl refl (omega (arith, less)) in

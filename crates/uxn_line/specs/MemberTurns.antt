@@ -22,7 +22,8 @@ pub record HasRun (before now : Member) : Type 0 where
 
 -- it was given what comes next, and that was the last or not
 pub record MemberWasGiven (budget : ℕ) (pending_input : PendingInput) (last : Bool) (before now : Member) : Type 0 where
-  pub stands : (place : Place) (pending_inputs : List PendingInput) → MemberAt before place → place.pending_inputs ≡ pending_input ∷ pending_inputs → IsForConsole pending_input
+  pub stands : (place : Place) (pending_inputs : List PendingInput) → MemberAt before place → place.pending_inputs ≡ pending_input ∷ pending_inputs
+      → IsForConsole pending_input
       → (last ≡ true) ↔ (pending_inputs ≡ []) → is_over place.done.last ≡ false → MemberAt now (turn budget place)
   pub ring : KeepsRing before now before.ring.items
   pub left : now.machine.left ≤ budget
@@ -30,6 +31,7 @@ pub record MemberWasGiven (budget : ℕ) (pending_input : PendingInput) (last : 
 
 -- it was given the first byte of its ring, or the end where the ring is empty
 pub record WasGivenNext (budget : ℕ) (before now : Member) : Type 0 where
-  pub stands : (place : Place) (pending_inputs : List PendingInput) → MemberAt before place → place.pending_inputs ≡ next_pending before.ring.items ∷ pending_inputs
+  pub stands : (place : Place) (pending_inputs : List PendingInput) → MemberAt before place
+      → place.pending_inputs ≡ next_pending before.ring.items ∷ pending_inputs
       → (before.ring.items ≡ []) ↔ (pending_inputs ≡ []) → is_over place.done.last ≡ false → MemberAt now (turn budget place)
   pub ring : KeepsRing before now (drop 1 before.ring.items)

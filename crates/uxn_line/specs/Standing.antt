@@ -1,6 +1,7 @@
 -- For which numbers of turns a line of machines stands (profile).
-use Rattle.std.specs.Prelude.{◌≡◌, ℕ, zero, suc, ◌==◌, ◌-◌, ◌≤◌, if◌then◌else◌, List, []}
-use Rattle.std.specs.Prelude.{◌++◌, length, take, slice_get, Some}
+use Rattle.std.specs.Prelude.{◌≡◌, ℕ, zero, suc, ◌==◌, ◌≤◌, ◌⊎◌, if◌then◌else◌, List, []}
+use Rattle.std.specs.Prelude.{◌∷◌, ◌++◌, length, map, slice_get, Some}
+use Rattle.play_script.specs.declared.script.Event.TheVariants.{Input, EndInput}
 use Rattle.play_script.specs.Held.{bytes_in}
 use Rattle.play_script.specs.Scripts.{ScriptView}
 use Rattle.uxn_io_traits.specs.ByteList.{ByteList}
@@ -8,8 +9,9 @@ use Rattle.uxn_line.specs.declared.line.Line.{Line}
 use Rattle.uxn_line.specs.declared.member.Member.{Member}
 use Rattle.vector_loop.specs.Places.{Place, PlaceHasEnded}
 use Rattle.uxn_line.specs.Places.{put_in}
-use Rattle.vector_loop.specs.PendingInputs.{pending_inputs_of}
-use Rattle.uxn_line.specs.Streams.{LineJob, IsJob, script_at, stream, after}
+use Rattle.vector_loop.specs.declared.pending_input.PendingInput.{PendingInput}
+use Rattle.vector_loop.specs.declared.pending_input.PendingInput.TheVariants.{OfEvent}
+use Rattle.uxn_line.specs.Streams.{LineJob, IsJob, stream, after}
 use Rattle.uxn_line.specs.Members.{MemberAt}
 
 -- how many turns each machine was given; machines are counted from 0
@@ -26,16 +28,26 @@ one_more machine turned other = if other == machine then suc (turned other) else
 abbrev pub machine_place : LineJob → Turned → ℕ → Place
 machine_place job turned machine = after job machine (turned machine)
 
--- how many bytes and events it was given in so many turns
-abbrev pub given_after : LineJob → ℕ → ℕ → ℕ
-given_after job machine count = length (pending_inputs_of (script_at job machine)) - length (after job machine count).pending_inputs
+-- bytes as inputs, and then the end
+abbrev pub inputs : List ℕ → List PendingInput
+inputs bytes = map OfEvent (map (λ byte. Input byte) bytes ++ EndInput ∷ [])
 
--- the ring between a machine after so many turns and the next one after so many holds what this one has written to port 18 and the next
+-- what a machine is still to be given where the ring before it holds these bytes and these are not written yet: all of them and the end, or
+-- nothing once the end was given
+abbrev pub AreToCome : List ℕ → List ℕ → List PendingInput → Type 0
+AreToCome ring rest pending_inputs = (pending_inputs ≡ inputs (ring ++ rest)) ⊎ ((pending_inputs ≡ []) × ((ring ≡ []) × (rest ≡ [])))
+
+-- the same by what is not written yet after so many turns of the machine before
+abbrev pub ComeAfter : LineJob → ℕ → ℕ → List ℕ → List PendingInput → Type 0
+ComeAfter job machine count ring pending_inputs =
+    (rest : List ℕ) → stream job machine ≡ put_in (after job machine count) ++ rest → AreToCome ring rest pending_inputs
+
+-- the ring between a machine after so many turns and the next one after so many: it holds what this one has written to port 18 and the next
 -- one was not given, or nothing where the run of the next one is over
 pub record Between (job : LineJob) (machine count next : ℕ) (ring : List ℕ) : Type 0 where
   pub dropped : PlaceHasEnded (after job (suc machine) next) → ring ≡ []
-  pub written : (PlaceHasEnded (after job (suc machine) next) → ⊥)
-      → put_in (after job machine count) ≡ take (given_after job (suc machine) next) (stream job machine) ++ ring
+  pub to_come : (PlaceHasEnded (after job (suc machine) next) → ⊥)
+      → ComeAfter job machine count ring (after job (suc machine) next).pending_inputs
 
 -- the ring before a machine; before the first one there is nothing
 abbrev pub RingBefore : LineJob → Turned → ℕ → List ℕ → Type 0

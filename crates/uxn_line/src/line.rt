@@ -95,6 +95,7 @@ impl<'a> Line<'a> {
 
     /// Gives a machine, from 1, one turn: an instruction of its vector, or where it is idle what comes next to its console.
     /// Errors where `out` does not take the byte that the last machine writes; then the line and `out` are as before.
+    #[tactic(auto, using(crate::proofs::Ending::waiting_idle, crate::proofs::Ending::waiting_goes))]
     pub fn turn<O: Sink>(&mut self, machine: u8, out: &mut O) -> Result<Moved, Failed>
         requires first { 1 ≤ machine }
         requires there { machine ≤ length self.old.members.items }

@@ -33,7 +33,8 @@ blame-same X Y TreeFault = refl
 blame-same X Y SinkFault = refl
 
 -- what the ports of a bus read, and what was last stored in them
-pub is_page : {T O E : Type 0} (contents_of_tree : T → Option Nodes) (bus : Bus T O E) (state : State) → BusRepresents contents_of_tree bus state.devices
+pub is_page : {T O E : Type 0} (contents_of_tree : T → Option Nodes) (bus : Bus T O E) (state : State)
+    → BusRepresents contents_of_tree bus state.devices
     → IsPage (ReadsPort bus state.core) (held_page bus) (page_in state)
 unfolding ports_read ports_stored
 is_page contents_of_tree bus state stands = record {
@@ -82,10 +83,10 @@ module _ {T O E W H : Type 0} (models : Models T O E W H) where
   }
 
   -- a part, and then what follows it
-  pub follows-both_counts : (before middle now : Running T O E W) (first : Trace) (rest : State → Trace)
+  pub follows-both : (before middle now : Running T O E W) (first : Trace) (rest : State → Trace)
       → Follows models before middle first → FollowsFrom models middle now rest
       → Follows models before now (followed_by first rest)
-  follows-both_counts before middle now first rest one more =
+  follows-both before middle now first rest one more =
       follows-on before middle now first (rest first.last) one
       (rw (reached before middle first one) at (more.from first.last.devices one.devices))
 
@@ -109,7 +110,8 @@ module _ {T O E W H : Type 0} (models : Models T O E W H) where
           tally = refl;
           makes = done.makes;
           changes = ([], ([], (sym (append-nil (instruction (running_state now devices)).changes), tt)));
-          watcher = watched (page_in (running_state now devices)) (is_page (contents_on models.meaning.tree) now.bus (running_state now devices) stands);
+          watcher = watched (page_in (running_state now devices))
+              (is_page (contents_on models.meaning.tree) now.bus (running_state now devices) stands);
         };
   }
 

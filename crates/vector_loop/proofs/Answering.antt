@@ -1,34 +1,32 @@
 -- What a runner answers for parts of a run, one after the other, whether they were done or stopped.
-use Rattle.std.proofs.Common.{◌≡◌, ℕ, ◌+◌, ◌≤◌, ◌⊎◌, Bool, true, false, cond, List, refl, ap, subst, sym, ◌∙◌, arith, rules}
-use Rattle.std.specs.Prelude.{Option, Some, None, IfSome, Result, Ok, Err, OnOk, IfErr}
+use Rattle.std.proofs.Common.{◌≡◌, ℕ, ◌+◌, ◌≤◌, ◌⊎◌, Bool, true, false, cond, List, refl, ap, subst, ◌∙◌, arith, rules}
+use Rattle.std.specs.Prelude.{Option, Some, None, IfSome, Result, Ok, Err}
+use Rattle.std.specs.Result.{result_and}
 use Rattle.uxn_io_traits.specs.Files.{Nodes}
 use Rattle.uxn_io_traits.specs.Faults.{Ledger}
 use Rattle.uxn_io_traits.specs.State.{TreeState}
 use Rattle.uxn_io_traits.specs.Ended.{RefusesNone}
 use Rattle.uxn_io_traits.specs.EndedLaws.{refuses-nothing, refuses-then}
 use Rattle.uxn_io_traits.specs.declared.trees.Tree as trees
-use Rattle.uxn_opcodes.specs.declared.Core.{Core}
 use Rattle.uxn_opcodes.specs.declared.Stop.{Stop}
 use Rattle.uxn_opcodes.specs.Ports.{result_blame}
 use Rattle.varvara_bus.specs.declared.bus.Bus.{Bus}
 use Rattle.varvara_bus.specs.State.{DeviceState}
 use Rattle.uxn_io_traits.specs.FaultLaws.{ledger-same, ledger-kept, ledger-then}
-use Rattle.varvara_bus.specs.Bus.{SameBorrowed, SameBus, FilesStay, HasRoot, IsOutside, ChangesDevices, BusRepresents, bus_faults, frames_begun, contents_on}
+use Rattle.varvara_bus.specs.Bus.{SameBorrowed, SameBus, FilesStay, HasRoot, IsOutside, ChangesDevices, BusRepresents, bus_faults, frames_begun}
+use Rattle.varvara_bus.specs.Bus.{contents_on}
 use Rattle.vector_loop.specs.declared.runner.Runner.{Runner}
-use Rattle.vector_loop.specs.declared.tally.Tally.{Tally}
 use Rattle.vector_loop.specs.State.{State, is_over}
 use Rattle.vector_loop.specs.Trace.{Trace, stays, makes, followed_by}
 use Rattle.vector_loop.specs.Event.{unless_over}
 use Rattle.vector_loop.specs.Outputs.{IsOutput, appended_to}
 use Rattle.vector_loop.specs.Making.{MadeOrCut}
 use Rattle.vector_loop.specs.Watch.{MayRefuse}
-use Rattle.vector_loop.specs.Follows.{Models, Running, running, running_state, FollowsFrom, FallsShortFrom, HasGrown}
-use Rattle.vector_loop.specs.Stops.{StopsInFrom}
+use Rattle.vector_loop.specs.Follows.{Models, Running, running_state, FollowsFrom, HasGrown}
 use Rattle.vector_loop.specs.Answers.{Count, none, both_counts, HasTallyRoom, running_of, SameRunner, ReachesResult, Answers}
-use Rattle.vector_loop.specs.TraceLaws.{followed_by-again, followed_by-at, stays-after}
-use Rattle.vector_loop.proofs.Along.{blame-same, follows-nothing, follows-both_counts}
-use Rattle.vector_loop.proofs.Stopping.{stopped-first, stopped-later, stopped-append, falls-short-from}
-use Rattle.vector_loop.proofs.Counting.{grown-both_counts, grown-none, grown-within, room-left}
+use Rattle.vector_loop.proofs.Along.{blame-same, follows-nothing, follows-both}
+use Rattle.vector_loop.proofs.Stopping.{stopped-first, stopped-later, stopped-append}
+use Rattle.vector_loop.proofs.Counting.{grown-both, grown-none, grown-within, room-left}
 use Rattle.vector_loop.proofs.Makings.{makes-nothing, files-kept, refuses-kept, same_faults, no-memory, the-stop}
 
 -- where the run is over nothing more is done, and else all
@@ -47,17 +45,17 @@ output-outside None root contents there = tt
 output-outside (Some path) root contents there = there.outside
 
 -- what stays in one part of a run, and then in another
-files-both_counts : (root root_then : Option (List ℕ)) (a b c : Option Nodes) → root_then ≡ root → FilesStay root a b → FilesStay root_then b c
+files-both : (root root_then : Option (List ℕ)) (a b c : Option Nodes) → root_then ≡ root → FilesStay root a b → FilesStay root_then b c
     → FilesStay root a c
-files-both_counts root root_then a b c same p q = search rules
+files-both root root_then a b c same p q = search rules
 
 -- memory runs out still where there was a root before
 wanting-still : {T O E : Type 0} (refuses : Type 0) (before now : Bus T O E) → now.devices.now.root ≡ before.devices.now.root
     → refuses ⊎ HasRoot now.devices.now → refuses ⊎ HasRoot before.devices.now
 wanting-still refuses before now same wanting = rw same at wanting
 
-borrowed-both_counts : {T O E : Type 0} (a b c : Bus T O E) → SameBorrowed a b → SameBorrowed b c → SameBorrowed a c
-borrowed-both_counts a b c p q = search rules
+borrowed-both : {T O E : Type 0} (a b c : Bus T O E) → SameBorrowed a b → SameBorrowed b c → SameBorrowed a c
+borrowed-both a b c p q = search rules
 
 -- nor was a file refused without a root in either
 refuses-both : (root root_then : Option (List ℕ)) (a b c : TreeState) → root_then ≡ root → (root ≡ None → RefusesNone a b)
@@ -68,12 +66,13 @@ module _ {T O E W : Type 0} (of_tree : trees.Ghosts T) where
   pub same-itself : (now : Runner T O E W) → SameRunner of_tree now now
   same-itself now = search (rules, refuses-nothing)
 
-  same-both_counts : (a b c : Runner T O E W) → SameRunner of_tree a b → SameRunner of_tree b c → SameRunner of_tree a c
-  same-both_counts a b c p q = search (rules, borrowed-both_counts, files-both_counts, refuses-both)
+  pub same-both : (a b c : Runner T O E W) → SameRunner of_tree a b → SameRunner of_tree b c → SameRunner of_tree a c
+  same-both a b c p q = search (rules, borrowed-both, files-both, refuses-both)
 
 module _ {T O E W H : Type 0} (models : Models T O E W H) where
-  reaches-where : {X : Type 0} (a b : Running T O E W) (part other : State → Trace) (r : Result X Stop)
-      → ((devices : DeviceState) → BusRepresents (contents_on models.meaning.tree) a.bus devices → other (running_state a devices) ≡ part (running_state a devices))
+  pub reaches-where : {X : Type 0} (a b : Running T O E W) (part other : State → Trace) (r : Result X Stop)
+      → ((devices : DeviceState) → BusRepresents (contents_on models.meaning.tree) a.bus devices
+      → other (running_state a devices) ≡ part (running_state a devices))
       → ReachesResult models a b part r → ReachesResult models a b other r
   reaches-where a b part other (Ok x) same follows = record { from = λ devices stands. rw (same devices stands) (follows.from devices stands) }
   reaches-where a b part other (Err stop) same stopped = record {
@@ -81,11 +80,11 @@ module _ {T O E W H : Type 0} (models : Models T O E W H) where
     memory = stopped.memory;
   }
 
-  reaches-then : {X : Type 0} (a b c : Running T O E W) (part rest : State → Trace) (r : Result X Stop)
+  pub reaches-then : {X : Type 0} (a b c : Running T O E W) (part rest : State → Trace) (r : Result X Stop)
       → b.bus.devices.now.root ≡ a.bus.devices.now.root → FollowsFrom models a b part
       → ReachesResult models b c rest r → ReachesResult models a c (λ s. followed_by (part s) rest) r
   reaches-then a b c part rest (Ok x) root one more = record {
-    from = λ devices stands. follows-both_counts models a b c (part (running_state a devices)) rest (one.from devices stands) more;
+    from = λ devices stands. follows-both models a b c (part (running_state a devices)) rest (one.from devices stands) more;
   }
   reaches-then a b c part rest (Err stop) root one more = record {
     within = record {
@@ -102,7 +101,7 @@ module _ {T O E W H : Type 0} (models : Models T O E W H) where
   -- a part, and then another, whatever that answers
   pub answers-then : {X Y : Type 0} (a b c : Runner T O E W) (part rest : State → Trace) (m n : Count) (x : X) (r : Result Y Stop)
       → Answers models a b part m (Ok x) → Answers models b c rest n r → Answers models a c (λ s. followed_by (part s) rest) (both_counts m n) r
-  answers-then a b c part rest m n x r p q = search (arith, rules, reaches-then, ledger-then, grown-both_counts, same-both_counts)
+  answers-then a b c part rest m n x r p q = search (arith, rules, reaches-then, ledger-then, grown-both, same-both)
 
   -- another part is reached by another answer, for which the same one is to blame
   answers-but : {X Y : Type 0} (a b : Runner T O E W) (part other : State → Trace) (m : Count) (r : Result X Stop) (s : Result Y Stop)
@@ -124,16 +123,12 @@ module _ {T O E W H : Type 0} (models : Models T O E W H) where
       })
       (blame-same Y X stop) p
 
-  -- the same stop, whatever would have been answered
-  pub answers-stopped : {X Y : Type 0} (a b : Runner T O E W) (part : State → Trace) (m : Count) (stop : Stop)
-      → Answers models {X = X} a b part m (Err stop) → Answers models {X = Y} a b part m (Err stop)
-  answers-stopped {X = X} {Y = Y} a b part m stop p =
+  -- another value where it was done
+  pub answers-and : {X Y : Type 0} (a b : Runner T O E W) (part : State → Trace) (m : Count) (r : Result X Stop) (y : Y)
+      → Answers models a b part m r → Answers models a b part m (result_and r (Ok y))
+  answers-and a b part m (Ok x) y p = answers-but a b part part m (Ok x) (Ok y) p.reaches refl p
+  answers-and {X = X} {Y = Y} a b part m (Err stop) y p =
       answers-but {X = X} {Y = Y} a b part part m (Err stop) (Err stop) p.reaches (blame-same Y X stop) p
-
-  -- another value
-  pub answers-with : {X Y : Type 0} (a b : Runner T O E W) (part : State → Trace) (m : Count) (x : X) (y : Y)
-      → Answers models a b part m (Ok x) → Answers models a b part m (Ok y)
-  answers-with a b part m x y p = answers-but a b part part m (Ok x) (Ok y) p.reaches refl p
 
   -- the same under another name, in the states that the bus represented
   pub answers-where : {X : Type 0} (a b : Runner T O E W) (part other : State → Trace) (m : Count) (r : Result X Stop)
@@ -141,11 +136,6 @@ module _ {T O E W H : Type 0} (models : Models T O E W H) where
       → other (running_state (running_of a) devices) ≡ part (running_state (running_of a) devices))
       → Answers models a b part m r → Answers models a b other m r
   answers-where a b part other m r same p = search (rules, answers-but, reaches-where)
-
-  -- the same in every state
-  pub answers-as : {X : Type 0} (a b : Runner T O E W) (part other : State → Trace) (m : Count) (r : Result X Stop)
-      → ((s : State) → other s ≡ part s) → Answers models a b part m r → Answers models a b other m r
-  answers-as a b part other m r same p = answers-where a b part other m r (λ devices stands. same (running_state (running_of a) devices)) p
 
   -- the same with the budget of a runner before
   pub answers-by : {X : Type 0} (a b : Runner T O E W) (part : ℕ → State → Trace) (m : Count) (r : Result X Stop) (budget : ℕ)
@@ -159,12 +149,14 @@ module _ {T O E W H : Type 0} (models : Models T O E W H) where
 
   -- where the run is over, and where it is not
   pub answers-over : {X : Type 0} (now : Runner T O E W) (rest : State → Trace) (m : Count) (x : X) (is : Bool)
-      → ((devices : DeviceState) → BusRepresents (contents_on models.meaning.tree) now.bus.now devices → is ≡ is_over (running_state (running_of now) devices))
+      → ((devices : DeviceState) → BusRepresents (contents_on models.meaning.tree) now.bus.now devices
+      → is ≡ is_over (running_state (running_of now) devices))
       → is ≡ true → Answers models now now (unless_over rest) m (Ok x)
   answers-over now rest m x is reads true_now = search (rules, arith, answers-within, answers-where, answers-nothing, over)
 
   pub answers-not_over : {X : Type 0} (a b : Runner T O E W) (rest : State → Trace) (m : Count) (r : Result X Stop) (is : Bool)
-      → ((devices : DeviceState) → BusRepresents (contents_on models.meaning.tree) a.bus.now devices → is ≡ is_over (running_state (running_of a) devices))
+      → ((devices : DeviceState) → BusRepresents (contents_on models.meaning.tree) a.bus.now devices
+      → is ≡ is_over (running_state (running_of a) devices))
       → is ≡ false → Answers models a b rest m r → Answers models a b (unless_over rest) m r
   answers-not_over a b rest m r is reads false_now p = search (rules, answers-where, not-over)
 
@@ -177,15 +169,21 @@ module _ {T O E W H : Type 0} (models : Models T O E W H) where
       → ((devices : DeviceState) → BusRepresents (contents_on models.meaning.tree) a.bus.now devices
       → running_state (running_of b) (prepare (running_state (running_of a) devices)).devices ≡ prepare (running_state (running_of a) devices))
       → Answers models a b (λ s. stays (prepare s)) m (Ok x)
-  answers-change a b prepare m x others_same bus others frames grown devices_now state_now = search (arith, rules, makes-nothing, ledger-kept, same_faults, files-kept, refuses-kept)
+  answers-change a b prepare m x others_same bus others frames grown devices_now state_now = search
+      (arith, rules, makes-nothing, ledger-kept, same_faults, files-kept, refuses-kept)
 
-  -- what the devices represent changes, and nothing else
-  pub answers-stored : {X : Type 0} (a b : Runner T O E W) (change : DeviceState → DeviceState) (x : X)
-      → record a { bus = b.bus; tally = b.tally } ≡ b → b.tally ≡ a.tally → b.bus.ghost_name ≡ a.bus.ghost_name
+  -- what the devices represent changes, and nothing else, and then a part is done
+  pub answers-stored : {X : Type 0} (a b c : Runner T O E W) (change : DeviceState → DeviceState) (part : State → Trace) (m : Count)
+      (r : Result X Stop) → record a { bus = b.bus; tally = b.tally } ≡ b → b.tally ≡ a.tally → b.bus.ghost_name ≡ a.bus.ghost_name
       → ChangesDevices a.bus.now b.bus.now → frames_begun b.bus.now ≡ frames_begun a.bus.now
-      → ((devices : DeviceState) → BusRepresents (contents_on models.meaning.tree) a.bus.now devices → BusRepresents (contents_on models.meaning.tree) b.bus.now (change devices))
-      → Answers models a b (λ s. stays (record s { devices = change s.devices })) none (Ok x)
-  answers-stored a b change x others_same tally bus others frames devices_now = search (arith, rules, answers-change, grown-none)
+      → ((devices : DeviceState) → BusRepresents (contents_on models.meaning.tree) a.bus.now devices
+      → BusRepresents (contents_on models.meaning.tree) b.bus.now (change devices))
+      → Answers models b c part m r → Answers models a c (λ s. part (record s { devices = change s.devices })) m r
+  answers-stored a b c change part m r others_same tally bus others frames devices_now p =
+      let first : Answers models a b (λ s. stays (record s { devices = change s.devices })) none (Ok (tt {0}))
+      = search (arith, rules, answers-change, grown-none) in
+      answers-within a c (λ s. part (record s { devices = change s.devices })) (both_counts none m) m r (omega arith) (omega arith)
+      (answers-then a b c (λ s. stays (record s { devices = change s.devices })) part none m (tt {0}) r first p)
 
   -- changes that a run makes itself are a part of it
   reaches-made : (a b : Runner T O E W) (output : Option (List ℕ)) (bytes : DeviceState → List ℕ) (r : Result (Unit {0}) Stop)
@@ -209,7 +207,8 @@ module _ {T O E W H : Type 0} (models : Models T O E W H) where
   }
 
   pub answers-made : (a b : Runner T O E W) (output : Option (List ℕ)) (bytes : DeviceState → List ℕ) (r : Result (Unit {0}) Stop)
-      → IfSome output (IsOutput a.bus.now.devices.now.root ((contents_on models.meaning.tree) a.bus.now.tree.now)) → record a { bus = b.bus } ≡ b → b.bus.ghost_name ≡ a.bus.ghost_name
+      → IfSome output (IsOutput a.bus.now.devices.now.root ((contents_on models.meaning.tree) a.bus.now.tree.now)) → record a { bus = b.bus } ≡ b
+      → b.bus.ghost_name ≡ a.bus.ghost_name
       → MadeOrCut models.meaning a.bus.now b.bus.now
       (λ s. appended_to output (bytes s)) r
       → Answers models a b (λ s. makes (appended_to output (bytes s.devices)) s) none r
@@ -230,59 +229,23 @@ module _ {T O E W H : Type 0} (models : Models T O E W H) where
       → Answers models a b part m r → HasTallyRoom b.tally b.budget n
   room-after a b part m n whole r p q room answers = rw answers.same.budget (room-left a.tally b.tally m n whole a.budget p q room answers.grown)
 
-  -- a whole of which a part is done and the rest is to come
-  pub record Going (before now : Runner T O E W) (whole rest : State → Trace) (most : Count) : Type 0 where
-    pub part : State → Trace
-    pub done : Answers models before now part most (Ok (tt {0}))
-    pub parts : (s : State) → whole s ≡ followed_by (part s) rest
-
-  pub going-start : (now : Runner T O E W) (whole : State → Trace) → Going now now whole whole none
-  going-start now whole = record { part = stays; done = answers-nothing now (tt {0}); parts = λ s. refl }
-
-  -- the first of the rest is done
-  pub going-on : {X : Type 0} (a b c : Runner T O E W) (whole rest part later : State → Trace) (m n : Count) (x : X)
-      → ((s : State) → rest s ≡ followed_by (part s) later) → Going a b whole rest m → Answers models b c part n (Ok x) → Going a c whole later (both_counts m n)
-  going-on a b c whole rest part later m n x next going done = record {
-    part = λ s. followed_by (going.part s) part;
-    done = answers-then a b c going.part part m n (tt {0}) (Ok (tt {0})) going.done (answers-with b c part n x (tt {0}) done);
-    parts = λ s. going.parts s ∙ followed_by-at (going.part s) rest (λ t. followed_by (part t) later) (next (going.part s).last)
-        ∙ sym (followed_by-again (going.part s) part later);
-  }
-
   -- whatever the rest answers, the whole does
-  pub going-answers : {X : Type 0} (a b c : Runner T O E W) (whole rest : State → Trace) (m n : Count) (r : Result X Stop) → Going a b whole rest m
-      → Answers models b c rest n r → Answers models a c whole (both_counts m n) r
-  going-answers a b c whole rest m n r going answers =
-      answers-as a c (λ s. followed_by (going.part s) rest) whole (both_counts m n) r going.parts
-      (answers-then a b c going.part rest m n (tt {0}) r going.done answers)
+  abbrev pub Going : Runner T O E W → Runner T O E W → (State → Trace) → (State → Trace) → Count → Count → Type 0
+  Going before now whole rest all left =
+      (after : Runner T O E W) (answer : Result (Unit {0}) Stop) → Answers models now after rest left answer
+      → Answers models before after whole all answer
 
-  pub going-stopped : {X Y : Type 0} (a b c : Runner T O E W) (whole rest part later : State → Trace) (m n : Count) (stop : Stop)
-      → ((s : State) → rest s ≡ followed_by (part s) later) → Going a b whole rest m → Answers models {X = X} b c part n (Err stop)
-      → Answers models {X = Y} a c whole (both_counts m n) (Err stop)
-  going-stopped a b c whole rest part later m n stop next going stopped =
-      going-answers a b c whole rest m n (Err stop) going
-      (answers-as b c (λ s. followed_by (part s) later) rest n (Err stop) next (answers-first b c part later n stop stopped))
+  -- the first of the rest is done, or it stopped
+  module _ (a b c : Runner T O E W) (whole : State → Trace) (part : ℕ → State → Trace) (later : State → Trace) (budget : ℕ) (all left m n : Count)
+      (p : m.vectors + n.vectors ≤ left.vectors) (q : m.events + n.events ≤ left.events) (same : b.budget ≡ budget)
+      (going : Going a b whole (λ s. followed_by (part budget s) later) all left) where
+    pub going-on : (x : Unit {0}) → Answers models b c (part b.budget) m (Ok x) → Going a c whole later all n
+    going-on x done = λ after answer answers.
+        going after answer (answers-within b after (λ s. followed_by (part budget s) later) (both_counts m n) left answer p q
+        (answers-then b c after (part budget) later m n x answer (answers-by b c part m (Ok x) budget same done) answers))
 
-  pub going-end : {X : Type 0} (a b : Runner T O E W) (whole rest : State → Trace) (m : Count) (x : X) → ((s : State) → rest s ≡ stays s)
-      → Going a b whole rest m → Answers models a b whole m (Ok x)
-  going-end a b whole rest m x nothing going = search (rules, answers-with, answers-as, followed_by-at, stays-after)
-
-  -- what a runner answered, by the answer, of the parts that it was made of
-  pub record Handed {X : Type 0} (before now : Running T O E W) (part : State → Trace) (r : Result X Stop) : Type 0 where
-    pub ok : OnOk r (FollowsFrom models before now part)
-    pub stopped : IfErr r (λ stop. StopsInFrom models before now stop part)
-    pub err : IfErr r (λ stop. FallsShortFrom models before now stop part)
-
-  handed-by : {X : Type 0} (before now : Running T O E W) (part : State → Trace) (r : Result X Stop) → ReachesResult models before now part r
-      → Handed before now part r
-  handed-by before now part (Ok x) follows = record { ok = follows; stopped = tt; err = tt }
-  handed-by before now part (Err stop) stopped = record {
-    ok = tt;
-    stopped = stopped.within;
-    err = falls-short-from models before now stop part stopped.within;
-  }
-
-  pub handed : {X : Type 0} (a b : Runner T O E W) (core : Core) (bus : Bus T O E) (tally : Tally) (watcher : W) (part : State → Trace) (m : Count)
-      (r : Result X Stop) → core ≡ b.core.now → bus ≡ b.bus.now → tally ≡ b.tally → watcher ≡ b.watcher.now → Answers models a b part m r
-      → Handed (running_of a) (running core bus tally watcher) part r
-  handed a b core bus tally watcher part m r c i t w answers = rw (c, i, t, w) (handed-by (running_of a) (running_of b) part r answers.reaches)
+    pub going-stopped : (stop : Stop) → Answers models {X = Unit {0}} b c (part b.budget) m (Err stop)
+        → Answers models {X = Unit {0}} a c whole all (Err stop)
+    going-stopped stop stopped =
+        going c (Err stop) (answers-within b c (λ s. followed_by (part budget s) later) m left (Err stop) (omega (arith, p)) (omega (arith, q))
+        (answers-first b c (part budget) later m stop (answers-by b c part m (Err stop) budget same stopped)))

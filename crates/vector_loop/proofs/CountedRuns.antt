@@ -6,11 +6,12 @@ use Rattle.vector_loop.specs.Trace.{Trace}
 use Rattle.vector_loop.specs.Counted.{AreCounted, IsCounted, CountingLaw}
 use Rattle.vector_loop.specs.RunLaws.{HoldsOn, run-holds}
 
-both_counts : (count : ℕ) (first more : List State) → AreCounted count first → AreCounted (count + length first) more → AreCounted count (first ++ more)
-both_counts count [] more one two = let none : count + 0 ≡ count = omega arith in rw none at two
-both_counts count (state ∷ first) more one two =
+counted-both : (count : ℕ) (first more : List State) → AreCounted count first → AreCounted (count + length first) more
+    → AreCounted count (first ++ more)
+counted-both count [] more one two = let none : count + 0 ≡ count = omega arith in rw none at two
+counted-both count (state ∷ first) more one two =
     let next : count + suc (length first) ≡ count + 1 + length first = omega arith in
-    (one.0, both_counts (count + 1) first more one.1 (rw next at two))
+    (one.0, counted-both (count + 1) first more one.1 (rw next at two))
 
 recounted : (count other : ℕ) (trace : Trace) → count ≡ other → IsCounted count trace → IsCounted other trace
 recounted count other trace same counted = rw (← same) counted
@@ -25,7 +26,7 @@ part-counts outputs = record {
       let two = recounted first.last.tally.instructions (state.tally.instructions + length first.moments) (rest first.last) one.last
       (more first.last) in
       record {
-        moments = both_counts state.tally.instructions first.moments (rest first.last).moments one.moments two.moments;
+        moments = counted-both state.tally.instructions first.moments (rest first.last).moments one.moments two.moments;
         last = two.last ∙ omega (arith, length-append first.moments (rest first.last).moments);
       };
   alike = λ before now part alike counted. recounted now.tally.instructions before.tally.instructions part alike.count counted;

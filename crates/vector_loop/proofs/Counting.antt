@@ -13,8 +13,9 @@ use Rattle.vector_loop.specs.State.{new_tally, counting_event}
 use Rattle.vector_loop.specs.Follows.{HasGrown, IsCompared}
 use Rattle.vector_loop.specs.Answers.{Count, HasTallyRoom}
 
-pub grown-both_counts : (a b c : Tally) (b1 g1 b2 g2 budget : ℕ) → HasGrown a b b1 g1 budget → HasGrown b c b2 g2 budget → HasGrown a c (b1 + b2) (g1 + g2) budget
-grown-both_counts a b c b1 g1 b2 g2 budget p q = search arith
+pub grown-both : (a b c : Tally) (b1 g1 b2 g2 budget : ℕ) → HasGrown a b b1 g1 budget → HasGrown b c b2 g2 budget
+    → HasGrown a c (b1 + b2) (g1 + g2) budget
+grown-both a b c b1 g1 b2 g2 budget p q = search arith
 
 pub grown-none : (a : Tally) (budget : ℕ) → HasGrown a a 0 0 budget
 grown-none a budget = search arith
@@ -22,40 +23,36 @@ grown-none a budget = search arith
 pub grown-within : (a b : Tally) (b1 g1 b2 g2 budget : ℕ) → b1 ≤ b2 → g1 ≤ g2 → HasGrown a b b1 g1 budget → HasGrown a b b2 g2 budget
 grown-within a b b1 g1 b2 g2 budget p q h = let most = mul-le-mul_right budget p in search arith
 
--- what room is left after so much was counted
+-- what room there is for less, and what is left after so much was counted
+pub room-less : (a : Tally) (m whole : Count) (budget : ℕ) → m.vectors ≤ whole.vectors → m.events ≤ whole.events
+    → HasTallyRoom a budget whole → HasTallyRoom a budget m
+room-less a m whole budget p q r = let most : m.vectors * budget ≤ whole.vectors * budget = mul-le-mul_right budget p in search arith
+
 pub room-left : (a b : Tally) (m n whole : Count) (budget : ℕ) → m.vectors + n.vectors ≤ whole.vectors → m.events + n.events ≤ whole.events
     → HasTallyRoom a budget whole → HasGrown a b m.vectors m.events budget → HasTallyRoom b budget n
 room-left a b m n whole budget p q r h =
     let most : (m.vectors + n.vectors) * budget ≤ whole.vectors * budget = mul-le-mul_right budget p in search arith
 
 -- a script's vectors and events can be counted from nothing
-pub room-new : (most : Count) (budget : ℕ) → 1 ≤ budget → most.vectors ≤ 9194305 → most.events ≤ 1000000 → budget < 2 ^ 32 → HasTallyRoom new_tally budget most
+pub room-new : (most : Count) (budget : ℕ) → 1 ≤ budget → most.vectors ≤ 9194305 → most.events ≤ 1000000 → budget < 2 ^ 32
+    → HasTallyRoom new_tally budget most
 room-new most budget some p q r =
     let product : most.vectors * budget ≤ 9194305 * budget = mul-le-mul_right budget p in search arith
 
--- a vector was run, or stopped
-grown-vector : (a : Tally) (count cuts budget : ℕ) → a.instructions ≤ count → count ≤ a.instructions + budget → cuts ≤ a.cuts + 1
-    → HasGrown a (record a { instructions = count; vectors = a.vectors + 1; cuts = cuts }) 1 0 budget
-grown-vector a count cuts budget more most cut = search arith
-
--- whatever ended it
+-- a vector was run, whatever ended it
 pub grown-run : (a : Tally) (end : Result VectorEnd Stop) (number budget : ℕ) → number ≤ budget → HasGrown a (counting_ran end number a) 1 0 budget
-grown-run a (Ok Broke) number budget most = grown-vector a (a.instructions + number) a.cuts budget (omega arith) (omega arith) (omega arith)
-grown-run a (Ok Cut) number budget most = grown-vector a (a.instructions + number) (a.cuts + 1) budget (omega arith) (omega arith) (omega arith)
-grown-run a (Err stop) number budget most = grown-vector a (a.instructions + number) a.cuts budget (omega arith) (omega arith) (omega arith)
+grown-run a (Ok Broke) number budget most = search arith
+grown-run a (Ok Cut) number budget most = search arith
+grown-run a (Err stop) number budget most = search arith
 
 -- an event is counted
-grown-event : (a : Tally) (frames shots budget : ℕ) → frames ≤ a.frames + 1 → shots ≤ a.shots + 1
-    → HasGrown a (record a { events = a.events + 1; frames = frames; shots = shots }) 0 1 budget
-grown-event a frames shots budget p q = search arith
-
 pub grown-counted : (event : Event) (a : Tally) (budget : ℕ) → HasGrown a (counting_event event a) 0 1 budget
-grown-counted (Input byte) a budget = grown-event a a.frames a.shots budget (omega arith) (omega arith)
-grown-counted EndInput a budget = grown-event a a.frames a.shots budget (omega arith) (omega arith)
-grown-counted (Device input) a budget = grown-event a a.frames a.shots budget (omega arith) (omega arith)
-grown-counted Frame a budget = grown-event a (a.frames + 1) a.shots budget (omega arith) (omega arith)
-grown-counted Shot a budget = grown-event a a.frames (a.shots + 1) budget (omega arith) (omega arith)
-grown-counted (Expect port byte) a budget = grown-event a a.frames a.shots budget (omega arith) (omega arith)
+grown-counted (Input byte) a budget = search arith
+grown-counted EndInput a budget = search arith
+grown-counted (Device input) a budget = search arith
+grown-counted Frame a budget = search arith
+grown-counted Shot a budget = search arith
+grown-counted (Expect port byte) a budget = search arith
 
 -- an expect is counted, and compared
 pub grown-compared : (a b : Tally) (budget : ℕ) → IsCompared (record a { events = a.events + 1 }) b → HasGrown a b 0 1 budget

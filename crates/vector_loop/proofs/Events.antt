@@ -1,5 +1,5 @@
 -- What the events of a run answer.
-use Rattle.std.proofs.Common.{◌≡◌, ◌≢◌, ℕ, ◌<◌, ◌≤◌, lit<, cond, refl, ap, sym, ◌∙◌, arith, rules}
+use Rattle.std.proofs.Common.{◌≡◌, ◌≢◌, ℕ, ◌<◌, ◌≤◌, lit<, cond, ap, sym, ◌∙◌, arith, rules}
 use Rattle.std.specs.Prelude.{Result, Ok, ◌==◌}
 use Rattle.input_ports.specs.declared.Input.{Input}
 use Rattle.input_ports.specs.declared.Input.TheVariants.{Key, Down, Up, Mouse, Press, Release, Scroll, DownOf, UpOf}
@@ -8,27 +8,29 @@ use Rattle.uxn_opcodes.specs.declared.Stop.{Stop}
 use Rattle.varvara_bus.specs.History.{stored, stored_short}
 use Rattle.varvara_bus.specs.ReadsPort.{read_of}
 use Rattle.play_script.specs.declared.script.Event.{Event}
-use Rattle.play_script.specs.declared.script.Event.TheVariants.{Frame, Expect}
+use Rattle.play_script.specs.declared.script.Event.TheVariants.{Expect}
 use Rattle.vector_loop.specs.declared.output.Outputs.{Outputs}
 use Rattle.vector_loop.specs.declared.runner.Runner.{Runner}
-use Rattle.vector_loop.specs.State.{State, with_stored, with_next_frame, with_counted, counting_event, counting_expect}
-use Rattle.vector_loop.specs.Trace.{Trace, stays, followed_by}
+use Rattle.vector_loop.specs.State.{State, with_stored, with_counted, counting_event, counting_expect}
+use Rattle.vector_loop.specs.Trace.{Trace, stays}
 use Rattle.vector_loop.specs.Vector.{vector}
 use Rattle.vector_loop.specs.Follows.{Models}
-use Rattle.vector_loop.specs.Event.{vector_at, vector_in, unless_over, shown_and_heard, frame, expected, happens, give}
+use Rattle.vector_loop.specs.Event.{vector_at, vector_in, unless_over, happens, give}
 use Rattle.vector_loop.specs.Answers.{Count, both_counts, of_vectors, of_events, Answers}
-use Rattle.vector_loop.proofs.Traces.{is_zero, is_not_zero}
+use Rattle.vector_loop.proofs.Traces.{is_not_zero}
 use Rattle.vector_loop.proofs.Counting.{grown-counted}
 use Rattle.uxn_io_traits.specs.FaultLaws.{ledger-same}
 use Rattle.vector_loop.proofs.Makings.{makes-nothing}
-use Rattle.vector_loop.proofs.Answering.{same-itself, answers-then, answers-as, answers-within}
+use Rattle.vector_loop.proofs.Answering.{same-itself, answers-then, answers-within}
 
 -- the vector in two ports, by the address there
-pub no-vector : (budget port address : ℕ) (state : State) → address ≡ stored_short state.devices.history port → address ≡ 0 → vector_in budget port state ≡ stays state
+pub no-vector : (budget port address : ℕ) (state : State) → address ≡ stored_short state.devices.history port → address ≡ 0
+    → vector_in budget port state ≡ stays state
 unfolding vector_in
-no-vector budget port address state is zero = ap (λ b. cond b (stays state) (vector budget (stored_short state.devices.history port) state)) (is_zero (stored_short state.devices.history port) (sym is ∙ zero))
+no-vector budget port address state is zero = ap (λ a. vector_at budget a state) (sym is ∙ zero)
 
-pub its-vector : (budget port address : ℕ) (state : State) → address ≡ stored_short state.devices.history port → address ≢ 0 → vector_in budget port state ≡ vector budget address state
+pub its-vector : (budget port address : ℕ) (state : State) → address ≡ stored_short state.devices.history port → address ≢ 0
+    → vector_in budget port state ≡ vector budget address state
 unfolding vector_in
 its-vector budget port address state is some =
     ap (λ a. vector_at budget a state) (sym is) ∙ ap (λ b. cond b (stays state) (vector budget address state)) (is_not_zero address some)
@@ -53,29 +55,14 @@ applying input state = with_stored (stores_of (stored state.devices.history) inp
 abbrev pub settling : Input → State → Trace
 settling input state = unless_over (λ after. stays (with_stored (stores_after input) after)) state
 
-give-is : (budget : ℕ) (outputs : Outputs) (event : Event) (state : State)
-    → give budget outputs event state ≡ happens budget outputs event (with_counted event state)
-unfolding give
-give-is budget outputs event state = refl
-
 -- an event is counted
 abbrev pub one_event : Count
 one_event = record { vectors = 0; events = 1 }
-
--- the frame begins as it is counted
-pub frame-given : (budget : ℕ) (outputs : Outputs) (state : State)
-    → give budget outputs Frame state ≡ shown_and_heard budget outputs (with_next_frame (with_counted Frame state))
-unfolding give frame
-frame-given budget outputs state = refl
 
 -- an expect is compared as it is counted
 abbrev pub with_compared : ℕ → ℕ → State → State
 with_compared port byte state =
     record state { tally = counting_expect (read_of state.devices state.core port == byte) (counting_event (Expect port byte) state.tally) }
-
-pub expect-given : (budget : ℕ) (outputs : Outputs) (port byte : ℕ) (state : State) → give budget outputs (Expect port byte) state ≡ stays (with_compared port byte state)
-unfolding give expected
-expect-given budget outputs port byte state = refl
 
 module _ {T O E W H : Type 0} (models : Models T O E W H) where
   answers-counted : (a : Runner T O E W) (event : Event)
@@ -86,9 +73,8 @@ module _ {T O E W H : Type 0} (models : Models T O E W H) where
   pub answers-given : {X : Type 0} (a c : Runner T O E W) (budget : ℕ) (outputs : Outputs) (event : Event) (n : ℕ) (r : Result X Stop) → n ≤ 5
       → Answers models (record a { tally = counting_event event a.tally }) c (happens budget outputs event) (of_vectors n) r
       → Answers models a c (give budget outputs event) (of_events 1) r
+  unfolding give
   answers-given a c budget outputs event n r few p =
       answers-within models a c (give budget outputs event) (both_counts one_event (of_vectors n)) (of_events 1) r (omega (arith, few)) (omega arith)
-      (answers-as models a c (λ s. followed_by (stays (with_counted event s)) (happens budget outputs event)) (give budget outputs event)
-      (both_counts one_event (of_vectors n)) r (give-is budget outputs event)
       (answers-then models a (record a { tally = counting_event event a.tally }) c (λ s. stays (with_counted event s)) (happens budget outputs event)
-      one_event (of_vectors n) (tt {0}) r (answers-counted a event) p))
+      one_event (of_vectors n) (tt {0}) r (answers-counted a event) p)

@@ -1,5 +1,6 @@
 -- What a run makes outside by itself: pictures and samples, piece by piece.
-use Rattle.std.proofs.Common.{◌≡◌, ◌≢◌, ℕ, suc, ◌+◌, ◌-◌, ◌<◌, ◌≤◌, List, [], ◌∷◌, ◌++◌, length, map, take, drop, refl, ap, sym, ◌∙◌, arith, rules, append_assoc, length-append, length-drop}
+use Rattle.std.proofs.Common.{◌≡◌, ◌≢◌, ℕ, suc, ◌+◌, ◌-◌, ◌<◌, ◌≤◌, List, [], ◌∷◌, ◌++◌, length, map, take, drop, refl, ap, sym, ◌∙◌, arith, rules}
+use Rattle.std.proofs.Common.{length-append, length-drop}
 use Rattle.std.proofs.Math.Seq.{take-append_seam}
 use Rattle.std.proofs.lemmas.List.{map-append}
 use Rattle.std.proofs.lemmas.List.Concat.{flat_map-cons}
@@ -23,7 +24,8 @@ use Rattle.screen_layers.specs.Pictures.{picture_row_of}
 use Rattle.varvara_bus.specs.declared.bus.Bus.{Bus}
 use Rattle.varvara_bus.specs.History.{colour_bytes}
 use Rattle.varvara_bus.specs.State.{DeviceState}
-use Rattle.varvara_bus.specs.Bus.{ChangesDevices, FilesStay, IsOutside, BusRepresents, BusModel, Makes, bus_faults, blame_for, SameBus, outside_on, contents_on}
+use Rattle.varvara_bus.specs.Bus.{ChangesDevices, FilesStay, IsOutside, BusRepresents, BusModel, Makes, bus_faults, blame_for, SameBus, outside_on}
+use Rattle.varvara_bus.specs.Bus.{contents_on}
 use Rattle.varvara_bus.specs.FileActs.{piece_appended}
 use Rattle.varvara_bus.specs.Laws.{appended-outside}
 use Rattle.uxn_io_traits.specs.FaultLaws.{ledger-same, ledger-then}
@@ -43,14 +45,17 @@ abbrev pub to_file : List ℕ → List ℕ → List Change
 to_file path bytes = map (λ byte. ToFile path byte) bytes
 
 -- the prefix of a row that was put into a buffer
-pub row-taken : (row before now : List ℕ) (count : ℕ) → now ≡ row ++ drop count before → length now ≡ length before → count ≤ length before → take count now ≡ row
+pub row-taken : (row before now : List ℕ) (count : ℕ) → now ≡ row ++ drop count before → length now ≡ length before → count ≤ length before
+    → take count now ≡ row
 row-taken row before now count is size within =
-    let whole : length now ≡ length row + (length before - count) = ap length is ∙ length-append row (drop count before) ∙ ap (λ n. length row + n) (length-drop count before) in
+    let whole : length now ≡ length row + (length before - count) = ap length is ∙ length-append row (drop count before)
+    ∙ ap (λ n. length row + n) (length-drop count before) in
     let same : length row ≡ count = omega (arith, whole, size, within) in
     ap (take count) is ∙ ap (λ n. take n (row ++ drop count before)) (sym same) ∙ take-append_seam row (drop count before)
 
 -- the picture file by what was read of the screen
-pub picture-parts : (state : DeviceState) (width height : ℕ) (colours : List (List ℕ)) (head : List ℕ) → width ≡ state.picture.width → height ≡ state.picture.height
+pub picture-parts : (state : DeviceState) (width height : ℕ) (colours : List (List ℕ)) (head : List ℕ) → width ≡ state.picture.width
+    → height ≡ state.picture.height
     → colours ≡ colours_of (colour_bytes state.history) → head ≡ head_bytes width height
     → picture_bytes state ≡ head ++ flat_map (picture_row_of colours state.picture) (range_with_len 0 (height - 0))
 unfolding picture_bytes
@@ -58,16 +63,12 @@ picture-parts state width height colours head ew eh ec is =
     let whole : height - 0 ≡ height = omega arith in
     rw (whole, is, ew, eh, ec) refl
 
--- the rows from one on, and none
-pub rows-next : (row : ℕ → List ℕ) (y height : ℕ) → y < height → flat_map row (range_with_len y (height - y)) ≡ row y ++ flat_map row (range_with_len (y + 1) (height - (y + 1)))
+-- the rows from one on
+pub rows-next : (row : ℕ → List ℕ) (y height : ℕ) → y < height
+    → flat_map row (range_with_len y (height - y)) ≡ row y ++ flat_map row (range_with_len (y + 1) (height - (y + 1)))
 rows-next row y height within =
     let left : height - y ≡ suc (height - (y + 1)) = omega (arith, within) in
     ap (λ n. flat_map row (range_with_len y n)) left ∙ flat_map-cons row y (range_with_len (y + 1) (height - (y + 1)))
-
-pub rows-end : (row : ℕ → List ℕ) (y height : ℕ) → height ≤ y → flat_map row (range_with_len y (height - y)) ≡ []
-rows-end row y height past =
-    let none : height - y ≡ 0 = omega (arith, past) in
-    ap (λ n. flat_map row (range_with_len y n)) none
 
 -- where the tree is as it was each file is there still
 pub files-kept : {T O E : Type 0} (contents_of_tree : T → Option Nodes) (before now : Bus T O E) → ChangesDevices before now
@@ -117,7 +118,8 @@ module _ {T O E : Type 0} (meaning : BusModel T O E) where
 
   pub appended : (a b : Bus T O E) (path bytes : List ℕ) (r : Result (Unit {0}) Stop)
       → Ended (to_file path bytes) (blame_for r) (outside_on meaning a) (outside_on meaning b)
-      → OnOk r ((s : DeviceState) → BusRepresents (contents_on meaning.tree) a s → BusRepresents (contents_on meaning.tree) b s) → OnErr r (r ≡ Err TreeFault)
+      → OnOk r ((s : DeviceState) → BusRepresents (contents_on meaning.tree) a s → BusRepresents (contents_on meaning.tree) b s)
+      → OnErr r (r ≡ Err TreeFault)
       → OnErr r (0 < length bytes) → b.devices.now ≡ a.devices.now → SameBus meaning.tree a b
       → MadeOrCut meaning a b (λ s. to_file path bytes) r
   appended a b path bytes r ended kept fault some devices same = search (rules, some-put, ended-ledger)
@@ -151,49 +153,26 @@ module _ {T O E : Type 0} (meaning : BusModel T O E) where
     same = p.same;
   }
 
-  -- bytes for one file, after which others are to come
-  pub record Putting (before now : Bus T O E) (path : List ℕ) (whole rest : DeviceState → List ℕ) : Type 0 where
-    pub done : DeviceState → List ℕ
-    pub made : MadeOrCut meaning before now (λ s. to_file path (done s)) (Ok (tt {0}))
-    pub parts : (s : DeviceState) → BusRepresents (contents_on meaning.tree) before s → whole s ≡ done s ++ rest s
+  -- whatever the rest of the bytes for a file answers, the whole does
+  abbrev pub Putting : Bus T O E → Bus T O E → List ℕ → (DeviceState → List ℕ) → (DeviceState → List ℕ) → Type 0
+  Putting before now path whole rest = (after : Bus T O E) (answer : Result (Unit {0}) Stop)
+      → MadeOrCut meaning now after (λ s. to_file path (rest s)) answer → MadeOrCut meaning before after (λ s. to_file path (whole s)) answer
 
-  pub putting-start : (bus : Bus T O E) (path : List ℕ) (whole : DeviceState → List ℕ) → Putting bus bus path whole whole
-  putting-start bus path whole = record { done = λ s. []; made = made-nothing bus; parts = λ s stands. refl }
+  -- the next of them are put, or not
+  module _ (a b c : Bus T O E) (path : List ℕ) (whole rest piece later : DeviceState → List ℕ)
+      (next : (s : DeviceState) → BusRepresents (contents_on meaning.tree) b s → rest s ≡ piece s ++ later s)
+      (putting : Putting a b path whole rest) where
+    parts : (s : DeviceState) → BusRepresents (contents_on meaning.tree) b s
+        → to_file path (rest s) ≡ to_file path (piece s) ++ to_file path (later s)
+    parts s stands = ap (to_file path) (next s stands) ∙ map-append (λ byte. ToFile path byte) (piece s) (later s)
 
-  -- the next of them
-  pub putting-more : (a b c : Bus T O E) (path : List ℕ) (whole rest piece later : DeviceState → List ℕ)
-      → ((s : DeviceState) → BusRepresents (contents_on meaning.tree) a s → rest s ≡ piece s ++ later s)
-      → Putting a b path whole rest → MadeOrCut meaning b c (λ s. to_file path (piece s)) (Ok (tt {0})) → Putting a c path whole later
-  putting-more a b c path whole rest piece later next putting made = record {
-    done = λ s. putting.done s ++ piece s;
-    made = made-where a c (λ s. to_file path (putting.done s) ++ to_file path (piece s)) (λ s. to_file path (putting.done s ++ piece s)) (Ok (tt {0}))
-        (λ s stands. map-append (λ byte. ToFile path byte) (putting.done s) (piece s))
-        (made-then a b c (λ s. to_file path (putting.done s)) (λ s. to_file path (piece s)) (Ok (tt {0})) putting.made made);
-    parts = λ s stands. putting.parts s stands ∙ ap (λ bytes. putting.done s ++ bytes) (next s stands)
-        ∙ sym (append_assoc (putting.done s) (piece s) (later s));
-  }
+    pub putting-more : MadeOrCut meaning b c (λ s. to_file path (piece s)) (Ok (tt {0})) → Putting a c path whole later
+    putting-more made = λ after answer more.
+        putting after answer (made-where b after (λ s. to_file path (piece s) ++ to_file path (later s)) (λ s. to_file path (rest s)) answer parts
+        (made-then b c after (λ s. to_file path (piece s)) (λ s. to_file path (later s)) answer made more))
 
-  -- whatever the rest answers, the whole does
-  pub putting-answers : (a b c : Bus T O E) (path : List ℕ) (whole rest : DeviceState → List ℕ) (more : DeviceState → List Change) (r : Result (Unit {0}) Stop)
-      → ((s : DeviceState) → BusRepresents (contents_on meaning.tree) a s → to_file path (rest s) ≡ more s)
-      → Putting a b path whole rest → MadeOrCut meaning b c more r
-      → MadeOrCut meaning a c (λ s. to_file path (whole s)) r
-  putting-answers a b c path whole rest more r same putting made =
-      made-where a c (λ s. to_file path (putting.done s) ++ more s) (λ s. to_file path (whole s)) r
-      (λ s stands. ap (to_file path) (putting.parts s stands) ∙ map-append (λ byte. ToFile path byte) (putting.done s) (rest s)
-      ∙ ap (λ changes. to_file path (putting.done s) ++ changes) (same s stands))
-      (made-then a b c (λ s. to_file path (putting.done s)) more r putting.made made)
-
-  pub putting-end : (a b : Bus T O E) (path : List ℕ) (whole rest : DeviceState → List ℕ)
-      → ((s : DeviceState) → BusRepresents (contents_on meaning.tree) a s → rest s ≡ []) → Putting a b path whole rest
-      → MadeOrCut meaning a b (λ s. to_file path (whole s)) (Ok (tt {0}))
-  putting-end a b path whole rest none putting = search (rules, putting-answers, made-nothing)
-
-  pub putting-cut : (a b c : Bus T O E) (path : List ℕ) (whole rest piece later : DeviceState → List ℕ) (stop : Stop)
-      → ((s : DeviceState) → BusRepresents (contents_on meaning.tree) a s → rest s ≡ piece s ++ later s)
-      → Putting a b path whole rest → MadeOrCut meaning b c (λ s. to_file path (piece s)) (Err stop)
-      → MadeOrCut meaning a c (λ s. to_file path (whole s)) (Err stop)
-  putting-cut a b c path whole rest piece later stop next putting cut =
-      putting-answers a b c path whole rest (λ s. to_file path (piece s) ++ to_file path (later s)) (Err stop)
-      (λ s stands. ap (to_file path) (next s stands) ∙ map-append (λ byte. ToFile path byte) (piece s) (later s)) putting
-      (made-first b c (λ s. to_file path (piece s)) (λ s. to_file path (later s)) stop cut)
+    pub putting-cut : (stop : Stop) → MadeOrCut meaning b c (λ s. to_file path (piece s)) (Err stop)
+        → MadeOrCut meaning a c (λ s. to_file path (whole s)) (Err stop)
+    putting-cut stop cut =
+        putting c (Err stop) (made-where b c (λ s. to_file path (piece s) ++ to_file path (later s)) (λ s. to_file path (rest s)) (Err stop) parts
+        (made-first b c (λ s. to_file path (piece s)) (λ s. to_file path (later s)) stop cut))

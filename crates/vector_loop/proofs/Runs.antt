@@ -32,9 +32,11 @@ module _ {T O E W H : Type 0} (models : Models T O E W H) where
           devices = f.devices;
           tally = f.tally;
           makes = f.makes;
-          watcher = shown_end (page_in (running_state now last.devices)) (is_page (contents_on models.meaning.tree) now.bus (running_state now last.devices) f.devices)
+          watcher = shown_end (page_in (running_state now last.devices))
+              (is_page (contents_on models.meaning.tree) now.bus (running_state now last.devices) f.devices)
               ∙ ap (λ h. models.ended h now.core (page_in (running_state now last.devices)) (moment_of (running_state now last.devices))) f.watcher
-              ∙ ap (λ (s : State). models.ended (shown_all models.shown (models.held before.watcher) (part (running_state before devices)).moments) s.core (page_in s) (moment_of s))
+              ∙ ap (λ (s : State). models.ended
+              (shown_all models.shown (models.held before.watcher) (part (running_state before devices)).moments) s.core (page_in s) (moment_of s))
               (reached models before now (part (running_state before devices)) f);
         };
   }
@@ -60,7 +62,8 @@ module _ {T O E W H : Type 0} (models : Models T O E W H) where
     stops = inl (rw (is_core, is_bus, is_watcher) answers.reaches.within);
   }
 
-  pub run-fell : {X : Type 0} (a b : Runner T O E W) (core : Core) (bus : Bus T O E) (tally : Tally) (watcher : W) (part : State → Trace) (m : Count) (stop : Stop)
+  pub run-fell : {X : Type 0} (a b : Runner T O E W) (core : Core) (bus : Bus T O E) (tally : Tally) (watcher : W) (part : State → Trace) (m : Count)
+      (stop : Stop)
       → core ≡ b.core.now → bus ≡ b.bus.now → watcher ≡ b.watcher.now → Answers models {X = X} a b part m (Err stop)
       → FallsShortFrom models (running_of a) (running core bus tally watcher) stop part
   run-fell a b core bus tally watcher part m stop is_core is_bus is_watcher answers =

@@ -8,16 +8,16 @@ use Rattle.uxn_opcodes.specs.declared.Stop.TheVariants.{NoMemory}
 use Rattle.uxn_opcodes.specs.Instruction.{Instruction}
 use Rattle.varvara_bus.specs.declared.bus.Bus.{Bus}
 use Rattle.varvara_bus.specs.State.{DeviceState}
-use Rattle.varvara_bus.specs.Bus.{BusRepresents, IsOutside, StopsShort, bus_rules, contents_on}
+use Rattle.varvara_bus.specs.Bus.{BusRepresents, IsOutside, bus_rules, contents_on}
 use Rattle.varvara_bus.specs.InstructionLaws.{makes-none, stops-first, stops-later, instruction-cut}
 use Rattle.varvara_bus.specs.Folders.{instruction-names}
 use Rattle.vector_loop.specs.declared.tally.Tally.{Tally}
 use Rattle.vector_loop.specs.State.{State}
 use Rattle.vector_loop.specs.Trace.{Trace, stays, makes, followed_by}
 use Rattle.vector_loop.specs.TraceLaws.{followed_by-again, followed_by-at, stays-after}
-use Rattle.vector_loop.specs.Folders.{TraceTakesNames, names-first, takes-later}
+use Rattle.vector_loop.specs.Folders.{names-first, takes-later}
 use Rattle.vector_loop.specs.Vector.{instruction}
-use Rattle.vector_loop.specs.Watch.{MayRefuse, page_in}
+use Rattle.vector_loop.specs.Watch.{page_in}
 use Rattle.vector_loop.specs.Follows.{Models, Running, running, running_state, Follows, FallsShort, FallsShortFrom}
 use Rattle.vector_loop.specs.Making.{MadeOrCut}
 use Rattle.vector_loop.specs.Outputs.{appended_to}
@@ -141,46 +141,39 @@ module _ {T O E W H : Type 0} (models : Models T O E W H) where
   }
 
   -- so not all of the trace was done
-  FallsAt : Running T O E W → Running T O E W → Stop → Trace → Type 0
-  FallsAt here now stop step = StopsShort models.meaning here.bus now.bus stop step.changes
-      × (stop ≡ NoMemory → MayRefuse models.may_refuse ⊎ TraceTakesNames step)
-
-  falls-instruction : (here now : Running T O E W) (stop : Stop) (state : State) (step : Trace) → step ≡ instruction state
+  falls-instruction : (here now : Running T O E W) (stop : Stop) (state : State)
       → WatcherRefused models here now stop ⊎ InstructionStopped models here now stop state
-      → FallsAt here now stop step
-  unfolding FallsAt
-  falls-instruction here now stop state step is (inl refused) = (
-    rw (is, refused.memory, refused.bus)
-        (stops-here models.meaning here.bus here.bus [] (instruction state).changes (makes-none models.meaning here.bus)),
-    λ wanted. inl (record { before = _; now = _; is = refused.left }),
-  )
-  falls-instruction here now stop state step is (inr stopped) = (
-    rw is stopped.made,
-    λ wanted. inr (rw is (record { before = []; moment = state; after = []; in_order = refl; takes = stopped.names wanted })),
-  )
+      → FallsShort models here now stop (instruction state)
+  falls-instruction here now stop state (inl refused) = record {
+    made = rw (refused.memory, refused.bus)
+        (stops-here models.meaning here.bus here.bus [] (instruction state).changes (makes-none models.meaning here.bus));
+    names = λ wanted. inl (record { before = _; now = _; is = refused.left });
+  }
+  falls-instruction here now stop state (inr stopped) = record {
+    made = stopped.made;
+    names = λ wanted. inr (record { before = []; moment = state; after = []; in_order = refl; takes = stopped.names wanted });
+  }
 
   falls-at : (here now : Running T O E W) (stop : Stop) (state : State) (step : Trace) → StepStopped models here now stop state step
-      → FallsAt here now stop step
-  unfolding FallsAt
-  falls-at here now stop state step (inl one) = falls-instruction here now stop state step one.0 one.1
-  falls-at here now stop state step (inr cut) = (cut.made, λ wanted. absurd (no-memory stop cut.fault wanted))
+      → FallsShort models here now stop step
+  falls-at here now stop state step (inl one) = rw one.0 (falls-instruction here now stop state one.1)
+  falls-at here now stop state step (inr cut) = record { made = cut.made; names = λ wanted. absurd (no-memory stop cut.fault wanted) }
 
   pub falls-short : (before now : Running T O E W) (stop : Stop) (trace : Trace) → StopsIn models before now stop trace
       → FallsShort models before now stop trace
-  unfolding FallsAt
   falls-short before now stop trace within =
       let falls = falls-at within.here now stop within.done.last within.step within.stopped in
       let rest : State → Trace = λ s. followed_by within.step within.later in
       rw within.parts (record {
         made = stops-later models.meaning before.bus within.here.bus now.bus stop within.done.changes (rest within.done.last).changes
             within.follows.makes
-            (stops-first models.meaning within.here.bus now.bus stop within.step.changes (within.later within.step.last).changes falls.0);
-        names = λ wanted. or-else (λ takes. takes-later within.done rest (names-first within.step within.later takes)) (falls.1 wanted);
+            (stops-first models.meaning within.here.bus now.bus stop within.step.changes (within.later within.step.last).changes falls.made);
+        names = λ wanted. or-else (λ takes. takes-later within.done rest (names-first within.step within.later takes)) (falls.names wanted);
       })
 
-  pub falls-short-from : (before now : Running T O E W) (stop : Stop) (part : State → Trace)
+  pub falls_short_from : (before now : Running T O E W) (stop : Stop) (part : State → Trace)
       → StopsInFrom models before now stop part → FallsShortFrom models before now stop part
-  falls-short-from before now stop part stops = record {
+  falls_short_from before now stop part stops = record {
     from = λ devices stands. falls-short before now stop (part (running_state before devices)) (stops.from devices stands);
   }
 

@@ -9,7 +9,8 @@ use Rattle.vector_loop.specs.State.{State}
 use Rattle.vector_loop.specs.Vector.{instruction, AreChangesAt}
 use Rattle.vector_loop.specs.Watch.{Page, page_in, moment_of, shown_all}
 
-pub shown_all-append : {H : Type 0} (shown : H → Core → Page → Moment → H) (held : H) (first more : List State) → shown_all shown held (first ++ more) ≡ shown_all shown (shown_all shown held first) more
+pub shown_all-append : {H : Type 0} (shown : H → Core → Page → Moment → H) (held : H) (first more : List State)
+    → shown_all shown held (first ++ more) ≡ shown_all shown (shown_all shown held first) more
 shown_all-append shown held [] more = refl
 shown_all-append shown held (state ∷ first) more = shown_all-append shown (shown held state.core (page_in state) (moment_of state)) first more
 

@@ -1,7 +1,7 @@
 -- The instructions of a vector, one after the other.
-use Rattle.std.proofs.Common.{◌≡◌, ℕ, zero, suc, ◌+◌, ◌-◌, ◌≤◌, true, false, cond, inl, inr, refl, ap, subst, sym, ◌∙◌, arith}
+use Rattle.std.proofs.Common.{◌≡◌, ℕ, zero, suc, ◌+◌, true, false, cond, inl, inr, refl, ap, subst, sym, ◌∙◌, arith}
 use Rattle.std.proofs.lemmas.Bool.{cases_Bool}
-use Rattle.std.specs.Prelude.{Result, Ok, Err, ◌==◌, ◌||◌}
+use Rattle.std.specs.Prelude.{IfOk, Result, Ok, Err, ◌||◌}
 use Rattle.uxn_io_traits.specs.Faults.{Ledger, Nobody}
 use Rattle.uxn_io_traits.specs.FaultLaws.{ledger-same, ledger-then}
 use Rattle.uxn_opcodes.specs.declared.Core.{Core}
@@ -12,42 +12,43 @@ use Rattle.uxn_opcodes.specs.Ports.{result_blame}
 use Rattle.uxn_opcodes.specs.Rule.{opcode_at}
 use Rattle.uxn_opcodes.specs.Instruction.{Instruction}
 use Rattle.varvara_bus.specs.declared.bus.Bus.{Bus}
-use Rattle.varvara_bus.specs.State.{DeviceState}
-use Rattle.varvara_bus.specs.Bus.{SameBus, BusRepresents, bus_faults, bus_rules, contents_on}
+use Rattle.varvara_bus.specs.Bus.{bus_faults, bus_rules}
 use Rattle.varvara_bus.specs.InstructionLaws.{makes-none, same-itself, same-again, instruction-borrowed, instruction-fault}
+use Rattle.vector_loop.specs.declared.tally.Tally.{Tally}
 use Rattle.vector_loop.specs.declared.tally.VectorEnd.{VectorEnd}
 use Rattle.vector_loop.specs.declared.tally.VectorEnd.TheVariants.{Broke, Cut}
 use Rattle.vector_loop.specs.State.{State, counting_instruction, counting_vector, counting_cut}
 use Rattle.vector_loop.specs.Trace.{Trace, stays, followed_by}
-use Rattle.vector_loop.specs.Vector.{instruction, at_break, instructions, breaks, ends_by, vector}
-use Rattle.vector_loop.specs.Budget.{RunsWithin, EndsBy, RanWhole, budget_with_break, runs-none, runs-more}
+use Rattle.vector_loop.specs.Vector.{instruction, at_break, instructions, breaks, ends_by, begun_at, vector}
+use Rattle.vector_loop.specs.Budget.{budget_with_break, counting_run, ends-more}
 use Rattle.vector_loop.specs.Watch.{MayRefuse}
-use Rattle.vector_loop.specs.Follows.{Models, Running, running, running_state, Follows}
+use Rattle.vector_loop.specs.Follows.{Models, Running, running, running_state}
 use Rattle.vector_loop.specs.Stops.{StopsInFrom}
 use Rattle.vector_loop.specs.Answers.{ReachesResult, RanTo}
-use Rattle.vector_loop.specs.TraceLaws.{followed_by-again, followed_by-at, stays-after}
+use Rattle.vector_loop.specs.TraceLaws.{stays-after}
 use Rattle.vector_loop.proofs.Traces.{is_zero, is_not_zero}
-use Rattle.vector_loop.proofs.Along.{Watched, blame-same, follows-nothing, follows-both_counts, follows-instruction, not-break, is-break}
-use Rattle.vector_loop.proofs.Stopping.{stopped-later, stopped-instruction, refused-instruction}
+use Rattle.vector_loop.proofs.Along.{Watched, blame-same, reached, follows-instruction, not-break, is-break}
+use Rattle.vector_loop.proofs.Stopping.{stopped-instruction, refused-instruction}
+use Rattle.vector_loop.proofs.Answering.{reaches-where, reaches-then}
 
 -- what is left of a vector where the next instruction is BRK, where it is not, and where nothing is left
 record LeftIs (left : ℕ) (state : State) (part : State → Trace) (end : VectorEnd) : Type 0 where
   whole : instructions left state ≡ part state
   ends : ends_by left state ≡ end
 
-left-break : (left less : ℕ) (state : State) → left ≡ suc less → at_break state ≡ true → LeftIs left state instruction Broke
+left-break : (less : ℕ) (state : State) → at_break state ≡ true → LeftIs (suc less) state instruction Broke
 unfolding instructions breaks
-left-break left less state one at = record {
-  whole = ap (λ n. instructions n state) one ∙ ap (λ b. cond b (instruction state) (followed_by (instruction state) (instructions less))) at;
-  ends = ap (λ n. ends_by n state) one ∙ ap (λ b. cond (b || breaks less (instruction state).last) Broke Cut) at;
+left-break less state at = record {
+  whole = ap (λ b. cond b (instruction state) (followed_by (instruction state) (instructions less))) at;
+  ends = ap (λ b. cond (b || breaks less (instruction state).last) Broke Cut) at;
 }
 
-left-next : (left less : ℕ) (state : State) → left ≡ suc less → at_break state ≡ false
-    → LeftIs left state (λ s. followed_by (instruction s) (instructions less)) (ends_by less (instruction state).last)
+left-next : (less : ℕ) (state : State) → at_break state ≡ false
+    → LeftIs (suc less) state (λ s. followed_by (instruction s) (instructions less)) (ends_by less (instruction state).last)
 unfolding instructions breaks
-left-next left less state one on = record {
-  whole = ap (λ n. instructions n state) one ∙ ap (λ b. cond b (instruction state) (followed_by (instruction state) (instructions less))) on;
-  ends = ap (λ n. ends_by n state) one ∙ ap (λ b. cond (b || breaks less (instruction state).last) Broke Cut) on;
+left-next less state on = record {
+  whole = ap (λ b. cond b (instruction state) (followed_by (instruction state) (instructions less))) on;
+  ends = ap (λ b. cond (b || breaks less (instruction state).last) Broke Cut) on;
 }
 
 left-none : (state : State) → LeftIs zero state (λ s. stays (record s { tally = counting_cut s.tally })) Cut
@@ -55,12 +56,22 @@ unfolding instructions breaks
 left-none state = record { whole = refl; ends = refl }
 
 -- it begins with an instruction
-left-instruction : (left less : ℕ) (state : State) → left ≡ suc less
-    → (later : State → Trace) × (instructions left state ≡ followed_by (instruction state) later)
-left-instruction left less state one = elim (cases_Bool (at_break state)) [
-  | inl at ↦ (stays, (left-break left less state one at).whole ∙ sym (stays-after (instruction state)))
-  | inr on ↦ (instructions less, (left-next left less state one on).whole)
+left-instruction : (less : ℕ) (state : State) → (later : State → Trace) × (instructions (suc less) state ≡ followed_by (instruction state) later)
+left-instruction less state = elim (cases_Bool (at_break state)) [
+  | inl at ↦ (stays, (left-break less state at).whole ∙ sym (stays-after (instruction state)))
+  | inr on ↦ (instructions less, (left-next less state on).whole)
 ]
+
+-- an instruction that ran before the others is counted with them
+counted-more : (end : Result VectorEnd Stop) (number : ℕ) (tally : Tally)
+    → counting_run end (budget_with_break end (suc number)) tally ≡ counting_run end (budget_with_break end number) (counting_instruction tally)
+counted-more (Ok Broke) number tally = ap (λ n. record tally { instructions = n }) (omega arith)
+counted-more (Ok Cut) number tally = ap (λ n. record tally { instructions = n; cuts = tally.cuts + 1 }) (omega arith)
+counted-more (Err stop) number tally = ap (λ n. record tally { instructions = n }) (omega arith)
+
+ok-then : {X : Type 0} (P Q : X → Type 0) (r : Result X Stop) → ((x : X) → P x → Q x) → IfOk r P → IfOk r Q
+ok-then P Q (Ok x) then p = then x p
+ok-then P Q (Err stop) then p = tt
 
 -- the machine, the bus and the watcher are these by now, and so many instructions more are counted
 abbrev pub counted_to : {T O E W : Type 0} → Running T O E W → Core → Bus T O E → W → ℕ → Running T O E W
@@ -68,189 +79,156 @@ counted_to before core bus watcher count =
     running core bus (record before.tally { instructions = before.tally.instructions + count }) watcher
 
 module _ {T O E W H : Type 0} (models : Models T O E W H) where
-  -- what was done so far of a vector, with so many instructions left
-  pub record SoFar (before now : Running T O E W) (budget left : ℕ) (devices : DeviceState) : Type 0 where
-    pub done : Trace
-    pub follows : Follows models before now done
-    pub whole : followed_by done (instructions left) ≡ instructions budget (running_state before devices)
-    pub ends : ends_by left done.last ≡ ends_by budget (running_state before devices)
-
-  -- so many instructions are left of the budget, and the others ran whole
-  pub record Along (before : Running T O E W) (core : Core) (bus : Bus T O E) (watcher : W) (budget left : ℕ) : Type 0 where
-    pub from : (devices : DeviceState) → BusRepresents (contents_on models.meaning.tree) before.bus devices
-        → SoFar before (counted_to before core bus watcher (budget - left)) budget left devices
-    pub runs : RunsWithin (bus_rules models.meaning) (budget - left) before.core before.bus core bus
-    pub same : SameBus models.meaning.tree before.bus bus
-    pub ledger : Ledger (bus_faults models.meaning before.bus) (bus_faults models.meaning bus) Nobody
-    pub within : left ≤ budget
-
-  -- so many ran whole, since so many had run as it ended
-  whole-by : {before : Running T O E W} {core core_new : Core} {bus bus_new : Bus T O E} {watcher : W} {budget left : ℕ}
-      (end : Result VectorEnd Stop) → Along before core bus watcher budget left
-      → EndsBy (bus_rules models.meaning) (MayRefuse models.may_refuse) end (budget - left) budget core bus core_new bus_new
-      → RanWhole (bus_rules models.meaning) (MayRefuse models.may_refuse) budget before.core before.bus end core_new bus_new
-      (budget_with_break end (budget - left))
-  whole-by {core = core} {bus = bus} {budget = budget} {left = left} end along ends =
-      record { before = budget - left; middle = core; between = bus; runs = along.runs; ends = ends; number = refl }
-
-  pub along-start : (before : Running T O E W) (budget : ℕ) → Along before before.core before.bus before.watcher budget budget
-  along-start before budget =
-      let same : before.tally.instructions ≡ before.tally.instructions + (budget - budget) = omega arith in
-      record {
-        from = λ devices stands.
-            let P : ℕ → Type 0 = λ n. SoFar before (running before.core before.bus (record before.tally { instructions = n }) before.watcher)
-            budget budget devices in
-            subst P same
-            (record { done = stays (running_state before devices); follows = follows-nothing models before devices stands; whole = refl; ends = refl });
-        runs = runs-none (bus_rules models.meaning) (budget - budget) before.core before.bus (omega arith);
-        same = same-itself models.meaning.tree before.bus;
-        ledger = ledger-same (bus_faults models.meaning before.bus);
-        within = omega arith;
-      }
-
-  module _ (before : Running T O E W) (core core_new : Core) (bus bus_new : Bus T O E) (watcher watcher_new : W) (budget left less : ℕ)
-      (one : left ≡ suc less) (along : Along before core bus watcher budget left) where
-    -- an instruction ran that is not BRK
-    pub along-ran : Watched models (counted_to before core bus watcher (budget - left)) watcher_new
-        → Instruction (bus_rules models.meaning) core bus (Ok Ran) core_new bus_new
-        → Ledger (bus_faults models.meaning bus) (bus_faults models.meaning bus_new) Nobody
-        → Along before core_new bus_new watcher_new budget less
-    along-ran watched ran counted =
-        let here = counted_to before core bus watcher (budget - left) in
-        let count : here.tally.instructions + 1 ≡ before.tally.instructions + (budget - less) = omega (arith, one, along.within) in
-        record {
-          from = λ devices stands.
-              let so_far = along.from devices stands in
-              let next = left-next left less so_far.done.last one (ap (λ (c : Core). opcode_at c == 0) (sym so_far.follows.core)
-              ∙ is_not_zero (opcode_at core) (not-break models.meaning core core_new bus bus_new ran)) in
-              let P : ℕ → Type 0 = λ n. SoFar before (running core_new bus_new (record before.tally { instructions = n }) watcher_new)
-              budget less devices in
-              subst P count (record {
-                done = followed_by so_far.done instruction;
-                follows = follows-both_counts models before here (running core_new bus_new (counting_instruction here.tally) watcher_new) so_far.done
-                    instruction so_far.follows (follows-instruction models here core_new bus_new watcher_new Ran watched ran);
-                whole = followed_by-again so_far.done instruction (instructions less)
-                    ∙ sym (followed_by-at so_far.done (instructions left) (λ s. followed_by (instruction s) (instructions less)) next.whole)
-                    ∙ so_far.whole;
-                ends = sym next.ends ∙ so_far.ends;
-              });
-          runs = runs-more (bus_rules models.meaning) (budget - left) (budget - less) before.core core core_new before.bus bus bus_new
-              (omega (arith, one, along.within)) along.runs ran;
-          same = same-again models.meaning.tree before.bus bus bus_new along.same
-              (instruction-borrowed models.meaning core core_new bus bus_new (Ok Ran) ran);
-          ledger = ledger-then (bus_faults models.meaning before.bus) (bus_faults models.meaning bus) (bus_faults models.meaning bus_new) Nobody
-              along.ledger counted;
-          within = omega (arith, one, along.within);
-        }
-
-    -- BRK ran
-    pub ran-broke : Watched models (counted_to before core bus watcher (budget - left)) watcher_new
-        → Instruction (bus_rules models.meaning) core bus (Ok Broken) core_new bus_new
-        → Ledger (bus_faults models.meaning bus) (bus_faults models.meaning bus_new) Nobody
-        → RanTo models before core_new bus_new watcher_new budget left (Ok Broke)
-    ran-broke watched ran counted =
-        let here = counted_to before core bus watcher (budget - left) in
-        let count : here.tally.instructions + 1 ≡ before.tally.instructions + (budget - left + 1) = omega arith in
-        let is : (done : Trace) → core ≡ done.last.core → LeftIs left done.last instruction Broke =
-        λ done same. left-break left less done.last one
-        (ap (λ (c : Core). opcode_at c == 0) (sym same) ∙ is_zero (opcode_at core) (is-break models.meaning core core_new bus bus_new ran)) in
-        record {
-          within = along.within;
-          whole = whole-by (Ok Broke) along (omega (arith, one, along.within), ran);
-          reaches = record {
-            from = λ devices stands.
-                let so_far = along.from devices stands in
-                let whole = sym so_far.whole
-                ∙ followed_by-at so_far.done (instructions left) instruction (is so_far.done so_far.follows.core).whole in
-                let P : ℕ → Type 0 = λ n. Follows models before (running core_new bus_new (record before.tally { instructions = n }) watcher_new)
-                (instructions budget (running_state before devices)) in
-                subst P count
-                (rw whole (follows-both_counts models before here (running core_new bus_new (counting_instruction here.tally) watcher_new) so_far.done
-                instruction so_far.follows (follows-instruction models here core_new bus_new watcher_new Broken watched ran)));
-          };
-          ends = λ devices stands.
-              let so_far = along.from devices stands in sym (is so_far.done so_far.follows.core).ends ∙ so_far.ends;
-          ledger = ledger-then (bus_faults models.meaning before.bus) (bus_faults models.meaning bus) (bus_faults models.meaning bus_new) Nobody
-              along.ledger counted;
-          same = same-again models.meaning.tree before.bus bus bus_new along.same
-              (instruction-borrowed models.meaning core core_new bus bus_new (Ok Broken) ran);
-        }
-
-    -- the next instruction stopped, or the watcher refused to be shown the machine before it
-    stops-left : (after : Running T O E W) (stop : Stop)
-        → ((later : State → Trace) → StopsInFrom models (counted_to before core bus watcher (budget - left)) after stop
-        (λ s. followed_by (instruction s) later))
-        → StopsInFrom models before after stop (instructions budget)
-    stops-left after stop stops = record {
+  module _ (here : Running T O E W) (left less : ℕ) (one : left ≡ suc less) where
+    -- where the next instruction stops the vector does
+    stops-first : (after : Running T O E W) (stop : Stop)
+        → ((later : State → Trace) → StopsInFrom models here after stop (λ s. followed_by (instruction s) later))
+        → StopsInFrom models here after stop (instructions (suc less))
+    stops-first after stop stops = record {
       from = λ devices stands.
-          let so_far = along.from devices stands in
-          let first = left-instruction left less so_far.done.last one in
-          let whole = sym so_far.whole ∙ followed_by-at so_far.done (instructions left) (λ s. followed_by (instruction s) first.0) first.1 in
-          rw whole (stopped-later models before (counted_to before core bus watcher (budget - left)) after stop so_far.done
-          (λ s. followed_by (instruction s) first.0) so_far.follows (stops first.0));
+          let first = left-instruction less (running_state here devices) in rw first.1 ((stops first.0).from devices stands);
     }
 
-    pub ran-stopped : (X : Type 0) (stop : Stop) → Watched models (counted_to before core bus watcher (budget - left)) watcher_new
-        → Instruction (bus_rules models.meaning) core bus (Err stop) core_new bus_new
-        → Ledger (bus_faults models.meaning bus) (bus_faults models.meaning bus_new) (result_blame {T = X} (Err stop))
-        → RanTo models before core_new bus_new watcher_new budget left (Err stop)
-    ran-stopped X stop watched stopped counted =
-        let here = counted_to before core bus watcher (budget - left) in
-        record {
-          within = along.within;
-          whole = whole-by (Err stop) along (omega (arith, one, along.within), inl stopped);
-          reaches = record {
-            within = stops-left (running core_new bus_new here.tally watcher_new) stop
-                (λ later. stopped-instruction models here core_new bus_new watcher_new stop later watched stopped);
-            memory = λ wanted. inr (rw along.same.root at (instruction-fault models.meaning core core_new bus bus_new stop stopped wanted));
-          };
-          ends = tt;
-          ledger = ledger-then (bus_faults models.meaning before.bus) (bus_faults models.meaning bus) (bus_faults models.meaning bus_new)
-              (result_blame {T = VectorEnd} (Err stop)) along.ledger (rw (blame-same VectorEnd X stop) counted);
-          same = same-again models.meaning.tree before.bus bus bus_new along.same
-              (instruction-borrowed models.meaning core core_new bus bus_new (Err stop) stopped);
-        }
-
-    pub ran-refused : models.may_refuse (models.held watcher) (models.held watcher_new)
-        → RanTo models before core bus watcher_new budget left (Err NoMemory)
-    ran-refused may =
-        let here = counted_to before core bus watcher (budget - left) in
-        let some : MayRefuse models.may_refuse = record { before = models.held watcher; now = models.held watcher_new; is = may } in
-        record {
-          within = along.within;
-          whole = whole-by (Err NoMemory) along (omega (arith, one, along.within), inr (refl, (some, (refl, refl))));
-          reaches = record {
-            within = stops-left (running core bus here.tally watcher_new) NoMemory (λ later. refused-instruction models here watcher_new later may);
+    -- the watcher refused to be shown the machine before it
+    pub ran-refused : (watcher_new : W) → models.may_refuse (models.held here.watcher) (models.held watcher_new)
+        → RanTo models here here.core here.bus watcher_new left 0 (Err NoMemory)
+    ran-refused watcher_new may =
+        let none : here.tally.instructions + 0 ≡ here.tally.instructions = omega arith in
+        let some : MayRefuse models.may_refuse = record { before = models.held here.watcher; now = models.held watcher_new; is = may } in
+        rw one (record {
+          whole = record { middle = here.core; between = here.bus; runs = (refl, refl); ends = (omega arith, inr (refl, (some, (refl, refl)))) };
+          reaches = rw none (record {
+            within = stops-first (running here.core here.bus here.tally watcher_new) NoMemory
+                (λ later. refused-instruction models here watcher_new later may);
             memory = λ wanted. inl some;
-          };
+          });
           ends = tt;
-          ledger = along.ledger;
-          same = along.same;
-        }
+          ledger = ledger-same (bus_faults models.meaning here.bus);
+          same = same-itself models.meaning.tree here.bus;
+        })
+
+    module _ (core_new : Core) (bus_new : Bus T O E) (watcher_new : W) where
+      -- an instruction ran that is not BRK, and then the others
+      ran-more : Watched models here watcher_new → Instruction (bus_rules models.meaning) here.core here.bus (Ok Ran) core_new bus_new
+          → Ledger (bus_faults models.meaning here.bus) (bus_faults models.meaning bus_new) Nobody
+          → (core : Core) (bus : Bus T O E) (watcher : W) (number : ℕ) (end : Result VectorEnd Stop)
+          → RanTo models (running core_new bus_new (counting_instruction here.tally) watcher_new) core bus watcher less number end
+          → RanTo models here core bus watcher left (suc number) end
+      ran-more watched ran counted core bus watcher number end rest =
+          let next = running core_new bus_new (counting_instruction here.tally) watcher_new in
+          let last = running core bus (counting_run end (budget_with_break end number) next.tally) watcher in
+          let follows = follows-instruction models here core_new bus_new watcher_new Ran watched ran in
+          let same = instruction-borrowed models.meaning here.core core_new here.bus bus_new (Ok Ran) ran in
+          let apart = is_not_zero (opcode_at here.core) (not-break models.meaning here.core core_new here.bus bus_new ran) in
+          rw one (record {
+            whole = record {
+              middle = rest.whole.middle;
+              between = rest.whole.between;
+              runs = (core_new, (bus_new, (ran, rest.whole.runs)));
+              ends = ends-more (bus_rules models.meaning) (MayRefuse models.may_refuse) end number less rest.whole.middle core rest.whole.between
+                  bus rest.whole.ends;
+            };
+            reaches = rw (counted-more end number here.tally) (reaches-where models here last (λ s. followed_by (instruction s) (instructions less))
+                (instructions (suc less)) end (λ devices stands. (left-next less (running_state here devices) apart).whole)
+                (reaches-then models here next last instruction (instructions less) end same.root follows rest.reaches));
+            ends = ok-then _ _ end (λ how at devices stands.
+                let state = running_state here devices in
+                let done = follows.from devices stands in
+                at (instruction state).last.devices done.devices ∙ ap (ends_by less) (reached models here next (instruction state) done)
+                ∙ sym (left-next less state apart).ends) rest.ends;
+            ledger = ledger-then (bus_faults models.meaning here.bus) (bus_faults models.meaning bus_new) (bus_faults models.meaning bus)
+                (result_blame end) counted rest.ledger;
+            same = same-again models.meaning.tree here.bus bus_new bus same rest.same;
+          })
+
+      -- BRK ran
+      pub ran-broke : Watched models here watcher_new → Instruction (bus_rules models.meaning) here.core here.bus (Ok Broken) core_new bus_new
+          → Ledger (bus_faults models.meaning here.bus) (bus_faults models.meaning bus_new) Nobody
+          → RanTo models here core_new bus_new watcher_new left 0 (Ok Broke)
+      ran-broke watched ran counted =
+          let next = running core_new bus_new (counting_instruction here.tally) watcher_new in
+          let at = is_zero (opcode_at here.core) (is-break models.meaning here.core core_new here.bus bus_new ran) in
+          rw one (record {
+            whole = record { middle = here.core; between = here.bus; runs = (refl, refl); ends = (omega arith, ran) };
+            reaches = reaches-where models here next instruction (instructions (suc less)) (Ok Broke)
+                (λ devices stands. (left-break less (running_state here devices) at).whole)
+                (follows-instruction models here core_new bus_new watcher_new Broken watched ran);
+            ends = λ devices stands. sym (left-break less (running_state here devices) at).ends;
+            ledger = counted;
+            same = instruction-borrowed models.meaning here.core core_new here.bus bus_new (Ok Broken) ran;
+          })
+
+      -- it stopped
+      pub ran-stopped : (X : Type 0) (stop : Stop) → Watched models here watcher_new
+          → Instruction (bus_rules models.meaning) here.core here.bus (Err stop) core_new bus_new
+          → Ledger (bus_faults models.meaning here.bus) (bus_faults models.meaning bus_new) (result_blame {T = X} (Err stop))
+          → RanTo models here core_new bus_new watcher_new left 0 (Err stop)
+      ran-stopped X stop watched stopped counted =
+          let none : here.tally.instructions + 0 ≡ here.tally.instructions = omega arith in
+          rw one (record {
+            whole = record { middle = here.core; between = here.bus; runs = (refl, refl); ends = (omega arith, inl stopped) };
+            reaches = rw none (record {
+              within = stops-first (running core_new bus_new here.tally watcher_new) stop
+                  (λ later. stopped-instruction models here core_new bus_new watcher_new stop later watched stopped);
+              memory = λ wanted. inr (instruction-fault models.meaning here.core core_new here.bus bus_new stop stopped wanted);
+            });
+            ends = tt;
+            ledger = rw (blame-same VectorEnd X stop) counted;
+            same = instruction-borrowed models.meaning here.core core_new here.bus bus_new (Err stop) stopped;
+          })
 
   -- as many ran as the budget allows
-  pub ran-cut : (before : Running T O E W) (core : Core) (bus : Bus T O E) (watcher : W) (budget : ℕ) → Along before core bus watcher budget 0
-      → RanTo models before core bus watcher budget 0 (Ok Cut)
-  ran-cut before core bus watcher budget along =
-      let here = counted_to before core bus watcher (budget - 0) in
+  pub ran-cut : (here : Running T O E W) → RanTo models here here.core here.bus here.watcher 0 0 (Ok Cut)
+  ran-cut here =
+      let none : here.tally.instructions + 0 ≡ here.tally.instructions = omega arith in
       record {
-        within = omega arith;
-        whole = whole-by (Ok Cut) along (omega arith, (refl, refl));
-        reaches = record {
-          from = λ devices stands.
-              let so_far = along.from devices stands in
-              let cut : State → Trace = λ s. stays (record s { tally = counting_cut s.tally }) in
-              let whole = sym so_far.whole ∙ followed_by-at so_far.done (instructions 0) cut (left-none so_far.done.last).whole in
-              rw whole (follows-both_counts models before here (running core bus (counting_cut here.tally) watcher) so_far.done cut so_far.follows
-              (record {
-                from = λ reached s.
-                    record { core = refl; devices = s; tally = refl; makes = makes-none models.meaning bus; changes = tt; watcher = refl };
-              }));
-        };
-        ends = λ devices stands. let so_far = along.from devices stands in sym (left-none so_far.done.last).ends ∙ so_far.ends;
-        ledger = along.ledger;
-        same = along.same;
+        whole = record { middle = here.core; between = here.bus; runs = (refl, refl); ends = (refl, (refl, refl)) };
+        reaches = rw none (reaches-where models here (running here.core here.bus (counting_cut here.tally) here.watcher)
+            (λ s. stays (record s { tally = counting_cut s.tally })) (instructions 0) (Ok Cut)
+            (λ devices stands. (left-none (running_state here devices)).whole) (record {
+              from = λ devices stands.
+                  record { core = refl; devices = stands; tally = refl; makes = makes-none models.meaning here.bus; changes = tt; watcher = refl };
+            }));
+        ends = λ devices stands. sym (left-none (running_state here devices)).ends;
+        ledger = ledger-same (bus_faults models.meaning here.bus);
+        same = same-itself models.meaning.tree here.bus;
       }
+
+  -- so many instructions ran, and none was BRK: what comes of those that are left is what comes of all
+  abbrev pub Along : Running T O E W → Core → Bus T O E → W → ℕ → ℕ → ℕ → Type 0
+  Along before core bus watcher budget done left = (core_new : Core) (bus_new : Bus T O E) (watcher_new : W) (number : ℕ)
+      (end : Result VectorEnd Stop) → RanTo models (counted_to before core bus watcher done) core_new bus_new watcher_new left number end
+      → RanTo models before core_new bus_new watcher_new budget (done + number) end
+
+  pub along-start : (before : Running T O E W) (budget done : ℕ) → done ≡ 0 → Along before before.core before.bus before.watcher budget done budget
+  along-start before budget done none = λ core bus watcher number end ran.
+      let Q : ℕ → Type 0 = λ n. RanTo models before core bus watcher budget n end in
+      let same : before.tally.instructions + done ≡ before.tally.instructions = omega (arith, none) in
+      subst Q (omega (arith, none)) (rw same at ran)
+
+  module _ (before : Running T O E W) (core : Core) (bus : Bus T O E) (watcher : W) (budget done left : ℕ)
+      (along : Along before core bus watcher budget done left) where
+    pub along-ran : (core_new : Core) (bus_new : Bus T O E) (watcher_new : W) (done_now less : ℕ) → done_now ≡ done + 1 → left ≡ suc less
+        → Watched models (counted_to before core bus watcher done) watcher_new
+        → Instruction (bus_rules models.meaning) core bus (Ok Ran) core_new bus_new
+        → Ledger (bus_faults models.meaning bus) (bus_faults models.meaning bus_new) Nobody
+        → Along before core_new bus_new watcher_new budget done_now less
+    along-ran core_new bus_new watcher_new done_now less more one watched ran counted = λ core_end bus_end watcher_end number end rest.
+        let P : ℕ → Type 0 = λ n. RanTo models (running core_new bus_new (record before.tally { instructions = n }) watcher_new)
+        core_end bus_end watcher_end less number end in
+        let Q : ℕ → Type 0 = λ n. RanTo models before core_end bus_end watcher_end budget n end in
+        let here = counted_to before core bus watcher done in
+        let counts : before.tally.instructions + done_now ≡ before.tally.instructions + done + 1 = omega (arith, more) in
+        let all : done + suc number ≡ done_now + number = omega (arith, more) in
+        subst Q all (along core_end bus_end watcher_end (suc number) end
+        (ran-more here left less one core_new bus_new watcher_new watched ran counted core_end bus_end watcher_end number end (subst P counts rest)))
+
+    pub along-end : (core_new : Core) (bus_new : Bus T O E) (watcher_new : W) (end : Result VectorEnd Stop)
+        → RanTo models (counted_to before core bus watcher done) core_new bus_new watcher_new left 0 end
+        → RanTo models before core_new bus_new watcher_new budget done end
+    along-end core_new bus_new watcher_new end ran =
+        let Q : ℕ → Type 0 = λ n. RanTo models before core_new bus_new watcher_new budget n end in
+        subst Q (omega arith) (along core_new bus_new watcher_new 0 end ran)
 
   -- what begins at an address is a vector
   pub vector-reaches : {X : Type 0} (before now : Running T O E W) (budget other at : ℕ) (r : Result X Stop) → budget ≡ other
@@ -258,25 +236,9 @@ module _ {T O E W H : Type 0} (models : Models T O E W H) where
       (instructions budget) r
       → ReachesResult models before now (vector other at) r
   unfolding vector
-  vector-reaches before now budget other at (Ok x) same follows = rw (← same) (record {
-    from = λ devices stands.
-        let done = follows.from devices stands in
-        record { core = done.core; devices = done.devices; tally = done.tally; makes = done.makes; changes = done.changes; watcher = done.watcher };
-  })
-  vector-reaches before now budget other at (Err stop) same stopped = rw (← same) (record {
-    within = record {
-      from = λ devices stands.
-          let within = stopped.within.from devices stands in
-          let f = within.follows in
-          record {
-            done = within.done;
-            here = within.here;
-            follows = record { core = f.core; devices = f.devices; tally = f.tally; makes = f.makes; changes = f.changes; watcher = f.watcher };
-            step = within.step;
-            later = within.later;
-            parts = within.parts;
-            stopped = within.stopped;
-          };
-    };
-    memory = stopped.memory;
-  })
+  vector-reaches before now budget other at r same more =
+      let begun = running (record before.core { at = at }) before.bus (counting_vector before.tally) before.watcher in
+      rw (← same) (reaches-then models before begun now (λ s. stays (begun_at at s)) (instructions budget) r refl (record {
+        from = λ devices stands.
+            record { core = refl; devices = stands; tally = refl; makes = makes-none models.meaning before.bus; changes = tt; watcher = refl };
+      }) more)

@@ -1,5 +1,5 @@
 -- What a part of a run answers: it was done, or it stopped.
-use Rattle.std.specs.Prelude.{◌≡◌, ℕ, ◌+◌, ◌-◌, ◌*◌, ◌^◌, ◌<◌, ◌≤◌, ◌⊎◌, Option, None, Result, Ok, Err, IfOk}
+use Rattle.std.specs.Prelude.{◌≡◌, ℕ, ◌+◌, ◌*◌, ◌^◌, ◌<◌, ◌≤◌, ◌⊎◌, Option, None, Result, Ok, Err, IfOk}
 use Rattle.uxn_io_traits.specs.Files.{Nodes}
 use Rattle.uxn_io_traits.specs.Faults.{Ledger}
 use Rattle.uxn_io_traits.specs.Ended.{RefusesNone}
@@ -100,14 +100,12 @@ module _ {T O E W H : Type 0} (models : Models T O E W H) where
     pub frames : frames_begun now.bus.now ≤ frames_begun before.bus.now + most.events
     pub same : SameRunner models.meaning.tree before now
 
-  -- what the instructions of a vector came to, of whose budget so much was left before the last one: all of it was done and it ended as it
-  -- does, or it stopped; and so many are counted as ran whole
-  pub record RanTo (before : Running T O E W) (core : Core) (bus : Bus T O E) (watcher : W) (budget left : ℕ) (end : Result VectorEnd Stop)
+  -- what the instructions of a vector came to, so many of which ran before the last one: all of it was done and it ended as it does, or
+  -- it stopped; and so many are counted as ran whole
+  pub record RanTo (before : Running T O E W) (core : Core) (bus : Bus T O E) (watcher : W) (budget number : ℕ) (end : Result VectorEnd Stop)
       : Type 0 where
-    pub within : left ≤ budget
-    pub whole : RanWhole (bus_rules models.meaning) (MayRefuse models.may_refuse) budget before.core before.bus end core bus
-        (budget_with_break end (budget - left))
-    pub reaches : ReachesResult before (running core bus (counting_run end (budget_with_break end (budget - left)) before.tally) watcher)
+    pub whole : RanWhole (bus_rules models.meaning) (MayRefuse models.may_refuse) budget before.core before.bus end core bus number
+    pub reaches : ReachesResult before (running core bus (counting_run end (budget_with_break end number) before.tally) watcher)
         (instructions budget) end
     pub ends : IfOk end (λ how. (devices : DeviceState) → BusRepresents (contents_on models.meaning.tree) before.bus devices
         → how ≡ ends_by budget (running_state before devices))

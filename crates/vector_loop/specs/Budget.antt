@@ -1,5 +1,5 @@
 -- The instructions of a vector over any ports: how many ran whole, and what ended them (Varvara device reference; profile: the budget).
-use Rattle.std.specs.Prelude.{◌≡◌, ℕ, zero, suc, ◌+◌, ◌<◌, ◌≤◌, ◌⊎◌, Result, Ok, Err, refl}
+use Rattle.std.specs.Prelude.{◌≡◌, ℕ, zero, suc, ◌+◌, ◌<◌, ◌≤◌, ◌⊎◌, Result, Ok, Err}
 use Rattle.std.proofs.Common.{arith}
 use Rattle.uxn_opcodes.specs.declared.Core.{Core}
 use Rattle.uxn_opcodes.specs.declared.Stop.{Stop}
@@ -32,7 +32,7 @@ module _ {S : Type 0} (rules : Rules S) where
   abbrev pub RunsWithin : ℕ → Core → S → Core → S → Type 0
   RunsWithin zero core ports core_new ports_new = (core_new ≡ core) × (ports_new ≡ ports)
   RunsWithin (suc number) core ports core_new ports_new =
-      (middle : Core) × ((between : S) × (RunsWithin number core ports middle between × Instruction rules middle between (Ok Ran) core_new ports_new))
+      (middle : Core) × ((between : S) × (Instruction rules core ports (Ok Ran) middle between × RunsWithin number middle between core_new ports_new))
 
   -- then came BRK, or as many had run as may, or an instruction stopped, or the watcher refused before one: but for the second, fewer
   -- had run
@@ -44,34 +44,31 @@ module _ {S : Type 0} (rules : Rules S) where
       (number < most) × (Instruction rules core ports (Err stop) core_new ports_new
       ⊎ ((stop ≡ NoMemory) × (refuses × ((core_new ≡ core) × (ports_new ≡ ports)))))
 
-  -- so many instructions ran whole until a vector ended or stopped
+  -- so many instructions ran whole until a vector ended or stopped at the next
   pub record RanWhole (refuses : Type 0) (most : ℕ) (core : Core) (ports : S) (result : Result VectorEnd Stop) (core_new : Core)
-      (ports_new : S) (whole : ℕ) : Type 0 where
-    pub before : ℕ
+      (ports_new : S) (before : ℕ) : Type 0 where
     pub middle : Core
     pub between : S
     pub runs : RunsWithin before core ports middle between
     pub ends : EndsBy refuses result before most middle between core_new ports_new
-    pub number : whole ≡ budget_with_break result before
 
-  -- and exactly so many are counted
+  -- and exactly so many are counted, with the BRK
   pub record CountsWhole (refuses : Type 0) (most : ℕ) (core : Core) (ports : S) (result : Result VectorEnd Stop) (core_new : Core)
       (ports_new : S) (tally tally_new : Tally) : Type 0 where
-    pub whole : ℕ
-    pub ran : RanWhole refuses most core ports result core_new ports_new whole
-    pub counted : tally_new ≡ counting_ran result whole tally
+    pub before : ℕ
+    pub ran : RanWhole refuses most core ports result core_new ports_new before
+    pub counted : tally_new ≡ counting_ran result (budget_with_break result before) tally
 
   -- no more than may
   pub ran-within : (refuses : Type 0) (most : ℕ) (core : Core) (ports : S) (result : Result VectorEnd Stop) (core_new : Core) (ports_new : S)
-      (whole : ℕ) → RanWhole refuses most core ports result core_new ports_new whole → whole ≤ most
-  ran-within refuses most core ports (Ok Broke) core_new ports_new whole ran = omega (arith, ran.number, ran.ends.0)
-  ran-within refuses most core ports (Ok Cut) core_new ports_new whole ran = omega (arith, ran.number, ran.ends.0)
-  ran-within refuses most core ports (Err stop) core_new ports_new whole ran = omega (arith, ran.number, ran.ends.0)
+      (before : ℕ) → RanWhole refuses most core ports result core_new ports_new before → budget_with_break result before ≤ most
+  ran-within refuses most core ports (Ok Broke) core_new ports_new before ran = omega (arith, ran.ends.0)
+  ran-within refuses most core ports (Ok Cut) core_new ports_new before ran = omega (arith, ran.ends.0)
+  ran-within refuses most core ports (Err stop) core_new ports_new before ran = omega (arith, ran.ends.0)
 
-  pub runs-none : (number : ℕ) (core : Core) (ports : S) → number ≡ 0 → RunsWithin number core ports core ports
-  runs-none number core ports none = rw none (refl, refl)
-
-  pub runs-more : (number more : ℕ) (core middle core_new : Core) (ports between ports_new : S) → more ≡ suc number
-      → RunsWithin number core ports middle between → Instruction rules middle between (Ok Ran) core_new ports_new
-      → RunsWithin more core ports core_new ports_new
-  runs-more number more core middle core_new ports between ports_new one runs ran = rw one (middle, (between, (runs, ran)))
+  -- one more ran before them
+  pub ends-more : (refuses : Type 0) (result : Result VectorEnd Stop) (number most : ℕ) (core core_new : Core) (ports ports_new : S)
+      → EndsBy refuses result number most core ports core_new ports_new → EndsBy refuses result (suc number) (suc most) core ports core_new ports_new
+  ends-more refuses (Ok Broke) number most core core_new ports ports_new ends = (omega (arith, ends.0), ends.1)
+  ends-more refuses (Ok Cut) number most core core_new ports ports_new ends = (omega (arith, ends.0), ends.1)
+  ends-more refuses (Err stop) number most core core_new ports ports_new ends = (omega (arith, ends.0), ends.1)

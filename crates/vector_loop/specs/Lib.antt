@@ -11,13 +11,12 @@ pub mod Answers
 pub mod Making
 pub mod Outputs
 pub mod Event
-pub mod Run
 pub mod PendingInputs
+pub mod Run
 pub mod Places
 pub mod StepLaws
 pub mod Touching
 pub mod RunLaws
 pub mod AppendingLaws
-pub mod StopLaws
 pub mod SilenceLaws
 pub mod Counted

@@ -1,5 +1,6 @@
 -- What a run is given, one thing at a time: the bytes of the arguments, and then the events (profile).
-use Rattle.std.specs.Prelude.{ℕ, ◌≡◌, ◌≤◌, List, [], ◌∷◌, ◌++◌, drop, length, map, Option, Some, None}
+use Rattle.std.specs.Prelude.{ℕ, ◌==◌, if◌then◌else◌, List, [], ◌∷◌, ◌++◌, length, map, Option, Some, None}
+use Rattle.console_port.specs.declared.EventKind.{EventKind}
 use Rattle.console_port.specs.declared.EventKind.TheVariants as event_kind
 use Rattle.play_script.specs.Scripts.{ScriptView}
 use Rattle.play_script.specs.declared.script.Event.{Event}
@@ -11,7 +12,23 @@ use Rattle.vector_loop.specs.State.{State, with_counted}
 use Rattle.vector_loop.specs.Trace.{Trace}
 use Rattle.vector_loop.specs.Answers.{Count, none, both_counts, of_vectors, of_events}
 use Rattle.vector_loop.specs.Event.{console, give}
-use Rattle.vector_loop.specs.Run.{ConsoleByte, arguments_given}
+
+-- a byte of the console with its kind
+abbrev pub ConsoleByte : Type 0
+ConsoleByte = ℕ × EventKind
+
+-- behind an argument that so many follow stands a newline
+abbrev pub kind_before : ℕ → EventKind
+kind_before following = if following == 0 then event_kind.End else event_kind.Spacer
+
+-- bytes that are left of an argument, and the newline behind it
+abbrev pub argument_left : List ℕ → ℕ → List ConsoleByte
+argument_left bytes following = map (λ byte. (byte, event_kind.Argument)) bytes ++ (10, kind_before following) ∷ []
+
+-- the bytes of all arguments
+unfoldable pub arguments_given : List (List ℕ) → List ConsoleByte
+arguments_given [] = []
+arguments_given (text ∷ texts) = argument_left text (length texts) ++ arguments_given texts
 
 -- all that a script gives
 abbrev pub of_argument : ConsoleByte → PendingInput
@@ -20,14 +37,11 @@ of_argument byte = OfArgument byte.0 byte.1
 abbrev pub pending_inputs_of : ScriptView → List PendingInput
 pending_inputs_of script = map of_argument (arguments_given script.arguments) ++ map OfEvent script.events
 
--- what these arguments, of the first of which so many bytes were given, and these events give
-abbrev pub pending_left : List (List ℕ) → ℕ → List Event → List PendingInput
-pending_left arguments at events = map of_argument (drop at (arguments_given arguments)) ++ map OfEvent events
-
--- no more bytes than the first argument has
-abbrev pub IsWithinFirst : ℕ → List (List ℕ) → Type 0
-IsWithinFirst at [] = at ≡ 0
-IsWithinFirst at (text ∷ texts) = at ≤ length text
+-- what these arguments, of the first of which these bytes are left, and these events give
+abbrev pub pending_left : List ℕ → List (List ℕ) → List Event → List PendingInput
+pending_left bytes [] events = map OfEvent events
+pending_left bytes (text ∷ texts) events =
+    map of_argument (argument_left bytes (length texts) ++ arguments_given texts) ++ map OfEvent events
 
 -- what one of them does
 abbrev pub given : ℕ → Outputs → PendingInput → State → Trace

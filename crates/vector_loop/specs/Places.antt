@@ -10,8 +10,8 @@ use Rattle.vector_loop.specs.State.{State, counting_cut, with_stored, is_over}
 use Rattle.vector_loop.specs.Trace.{Trace, stays, followed_by}
 use Rattle.vector_loop.specs.Vector.{at_break, instruction, instructions, begun_at}
 use Rattle.vector_loop.specs.Event.{give_each}
-use Rattle.vector_loop.specs.Run.{ConsoleByte, made_ready, run}
-use Rattle.vector_loop.specs.PendingInputs.{pending_inputs_of, given, console_byte_of, counted_input}
+use Rattle.vector_loop.specs.Run.{made_ready, run}
+use Rattle.vector_loop.specs.PendingInputs.{ConsoleByte, pending_inputs_of, given, console_byte_of, counted_input}
 
 -- where a run stands: what was done so far, what is left of the budget of the vector that runs, 0 where the machine is idle, and
 -- what is still to be given
@@ -39,7 +39,7 @@ one_instruction less state = record (instruction state) {
 }
 
 unfoldable pub instruction_step : ℕ → Trace → List PendingInput → Place
-instruction_step less done pending_inputs = place (followed_by done (one_instruction less)) (if at_break done.last then 0 else less) pending_inputs
+instruction_step less done later = place (followed_by done (one_instruction less)) (if at_break done.last then 0 else less) later
 
 -- no instruction is run, and the state is this one
 abbrev pub come_to : State → Trace → Trace
@@ -51,24 +51,24 @@ holding byte state = with_stored ((0x12, byte.0) ∷ (0x17, event_byte byte.1) �
 
 -- its vector begins, unless it is 0
 unfoldable pub vector_begins : ℕ → State → Trace → List PendingInput → Place
-vector_begins budget held done pending_inputs =
+vector_begins budget held done later =
     let address = stored_short held.devices.history 0x10 in
-    if address == 0 then place (come_to held done) 0 pending_inputs else place (come_to (begun_at address held) done) budget pending_inputs
+    if address == 0 then place (come_to held done) 0 later else place (come_to (begun_at address held) done) budget later
 
 -- the console holds a byte, and its vector begins; what is not for the console is done in one step
 abbrev pub giving_by : ℕ → Outputs → PendingInput → Option ConsoleByte → Trace → List PendingInput → Place
-giving_by budget outputs pending_input (Some byte) done pending_inputs = vector_begins budget (holding byte (counted_input pending_input done.last)) done pending_inputs
-giving_by budget outputs pending_input None done pending_inputs = place (followed_by done (given budget outputs pending_input)) 0 pending_inputs
+giving_by budget outputs input (Some byte) done later = vector_begins budget (holding byte (counted_input input done.last)) done later
+giving_by budget outputs input None done later = place (followed_by done (given budget outputs input)) 0 later
 
 -- an idle machine is given what comes next, unless its run is over
 abbrev pub idle_step : ℕ → Outputs → Trace → List PendingInput → Place
 idle_step budget outputs done [] = place done 0 []
-idle_step budget outputs done (pending_input ∷ pending_inputs) =
-    if is_over done.last then place done 0 (pending_input ∷ pending_inputs) else giving_by budget outputs pending_input (console_byte_of pending_input) done pending_inputs
+idle_step budget outputs done (input ∷ later) =
+    if is_over done.last then place done 0 (input ∷ later) else giving_by budget outputs input (console_byte_of input) done later
 
 abbrev pub next_place : ℕ → Outputs → ℕ → Trace → List PendingInput → Place
-next_place budget outputs zero done pending_inputs = idle_step budget outputs done pending_inputs
-next_place budget outputs (suc less) done pending_inputs = instruction_step less done pending_inputs
+next_place budget outputs zero done later = idle_step budget outputs done later
+next_place budget outputs (suc less) done later = instruction_step less done later
 
 -- the next step; where the run is over it changes nothing
 unfoldable pub step : ℕ → Outputs → Place → Place
@@ -90,7 +90,7 @@ vector_left zero state = stays state
 vector_left (suc less) state = instructions (suc less) state
 
 abbrev pub run_left : ℕ → Outputs → ℕ → List PendingInput → State → Trace
-run_left budget outputs left pending_inputs state = followed_by (vector_left left state) (give_each (given budget outputs) pending_inputs)
+run_left budget outputs left later state = followed_by (vector_left left state) (give_each (given budget outputs) later)
 
 -- what was done and what is left
 abbrev pub whole_run : ℕ → Outputs → Place → Trace

@@ -12,8 +12,11 @@ use Rattle.play_script.specs.declared.script.Event.TheVariants.{Input, EndInput,
 use Rattle.play_script.specs.Scripts.{ScriptView}
 use Rattle.varvara_bus.specs.History.{Store, stored, stored_short}
 use Rattle.varvara_bus.specs.ReadsPort.{read_of}
+use Rattle.varvara_bus.specs.State.{DeviceState}
 use Rattle.vector_loop.specs.declared.tally.Tally.{Tally}
 use Rattle.vector_loop.specs.declared.output.Outputs.{Outputs}
+use Rattle.vector_loop.specs.declared.pending_input.PendingInput.{PendingInput}
+use Rattle.vector_loop.specs.declared.pending_input.PendingInput.TheVariants.{OfArgument, OfEvent}
 use Rattle.vector_loop.specs.State.{State, counting_cut, counting_event, counting_expect, with_stored, with_next_frame}
 use Rattle.vector_loop.specs.State.{with_rendered, with_refreshed, with_counted, is_over}
 use Rattle.vector_loop.specs.Trace.{Trace, stays, makes, followed_by}
@@ -21,7 +24,8 @@ use Rattle.vector_loop.specs.Outputs.{appended_to, picture_bytes, samples_bytes}
 use Rattle.vector_loop.specs.Vector.{at_break, instruction, instructions, begun_at, vector}
 use Rattle.vector_loop.specs.Event.{vector_in, unless_over, give_each, console, device, expected, samples_kept, vector_where, ended_vectors}
 use Rattle.vector_loop.specs.Event.{heard, shown_and_heard, frame, shot, happens, give}
-use Rattle.vector_loop.specs.Run.{console_byte, arguments_given, made_ready, run}
+use Rattle.vector_loop.specs.PendingInputs.{pending_inputs_of, given}
+use Rattle.vector_loop.specs.Run.{made_ready, run}
 
 -- states that differ in no byte of the memory and the stacks, in no file, and in no count of instructions
 pub record Alike (before now : State) : Type 0 where
@@ -44,68 +48,73 @@ pub record HoldsOn (outputs : Outputs) (Q : State → Trace → Type 0) : Type 0
       → Q state (followed_by first rest)
   pub alike : (before now : State) (part : Trace) → Alike before now → Q now part → Q before part
 
-alike-devices : (state : State) (stores : List Store) → Alike state (with_stored stores state)
-alike-devices state stores =
-    record { memory = refl; working = refl; returns = refl; root = refl; first = refl; second = refl; count = refl }
+-- another core and other devices with the same bytes and files, and another tally with the same count
+alike-by : (state : State) (at : ℕ) (devices : DeviceState) (tally : Tally) → devices.root ≡ state.devices.root
+    → devices.first_file ≡ state.devices.first_file → devices.second_file ≡ state.devices.second_file
+    → tally.instructions ≡ state.tally.instructions
+    → Alike state (record { core = record state.core { at = at }; devices = devices; tally = tally })
+alike-by state at devices tally root first second count =
+    record { memory = refl; working = refl; returns = refl; root = root; first = first; second = second; count = count }
 
-alike-tally : (state : State) (tally : Tally) → tally.instructions ≡ state.tally.instructions → Alike state (record state { tally = tally })
-alike-tally state tally same =
-    record { memory = refl; working = refl; returns = refl; root = refl; first = refl; second = refl; count = same }
+-- no event and no expect counts an instruction
+event-count : (event : Event) (tally : Tally) → (counting_event event tally).instructions ≡ tally.instructions
+event-count (Input byte) tally = refl
+event-count EndInput tally = refl
+event-count (Device input) tally = refl
+event-count Frame tally = refl
+event-count Shot tally = refl
+event-count (Expect port byte) tally = refl
 
-event-alike : (event : Event) (state : State) → Alike state (with_counted event state)
-event-alike (Input byte) state = alike-tally state (counting_event (Input byte) state.tally) refl
-event-alike EndInput state = alike-tally state (counting_event EndInput state.tally) refl
-event-alike (Device input) state = alike-tally state (counting_event (Device input) state.tally) refl
-event-alike Frame state = alike-tally state (counting_event Frame state.tally) refl
-event-alike Shot state = alike-tally state (counting_event Shot state.tally) refl
-event-alike (Expect port byte) state = alike-tally state (counting_event (Expect port byte) state.tally) refl
-
-expect-alike : (hit : Bool) (state : State) → Alike state (record state { tally = counting_expect hit state.tally })
-expect-alike true state = alike-tally state (counting_expect true state.tally) refl
-expect-alike false state = alike-tally state (counting_expect false state.tally) refl
+expect-count : (hit : Bool) (tally : Tally) → (counting_expect hit tally).instructions ≡ tally.instructions
+expect-count true tally = refl
+expect-count false tally = refl
 
 module _ (outputs : Outputs) (Q : State → Trace → Type 0) (holds : HoldsOn outputs Q) where
   -- of a part, from every state
   abbrev All : (State → Trace) → Type 0
   All part = (state : State) → Q state (part state)
 
+  -- of either of two parts
+  either : (is : Bool) (state : State) (one other : Trace) → Q state one → Q state other → Q state (cond is one other)
+  either true state one other this that = this
+  either false state one other this that = that
+
+  -- where something is counted or stored first
+  counted-holds : (tally : Tally) (part : State → Trace) (state : State) → tally.instructions ≡ state.tally.instructions
+      → Q (record state { tally = tally }) (part (record state { tally = tally })) → Q state (part (record state { tally = tally }))
+  counted-holds tally part state same all =
+      holds.alike state (record state { tally = tally }) (part (record state { tally = tally }))
+      (alike-by state state.core.at state.devices tally refl refl refl same) all
+
   stored-holds : (stores : List Store) (part : State → Trace) → All part → All (λ s. part (with_stored stores s))
   stored-holds stores part all state =
-      holds.alike state (with_stored stores state) (part (with_stored stores state)) (alike-devices state stores) (all (with_stored stores state))
+      let now = with_stored stores state in
+      holds.alike state now (part now) (alike-by state state.core.at now.devices state.tally refl refl refl refl) (all now)
 
   instructions-hold : (left : ℕ) → All (instructions left)
   unfolding instructions
   instructions-hold zero state =
-      let cut : State = record state { tally = counting_cut state.tally } in
-      holds.alike state cut (stays cut) (alike-tally state cut.tally refl) (holds.nothing cut)
+      counted-holds (counting_cut state.tally) stays state refl (holds.nothing (record state { tally = counting_cut state.tally }))
   instructions-hold (suc left) state =
-      elim (at_break state) as (λ b. Q state (cond b (instruction state) (followed_by (instruction state) (instructions left)))) [
-        | true ↦ holds.one state
-        | false ↦ holds.then state (instruction state) (instructions left) (holds.one state) (instructions-hold left)
-      ]
+      either (at_break state) state (instruction state) (followed_by (instruction state) (instructions left)) (holds.one state)
+      (holds.then state (instruction state) (instructions left) (holds.one state) (instructions-hold left))
 
   vector-holds : (budget address : ℕ) → All (vector budget address)
   unfolding vector
   vector-holds budget address state =
-      holds.alike state (begun_at address state) (instructions budget (begun_at address state))
-      (record { memory = refl; working = refl; returns = refl; root = refl; first = refl; second = refl; count = refl })
-      (instructions-hold budget (begun_at address state))
+      let begun = begun_at address state in
+      holds.alike state begun (instructions budget begun) (alike-by state address state.devices begun.tally refl refl refl refl)
+      (instructions-hold budget begun)
 
   vector_in-holds : (budget port : ℕ) → All (vector_in budget port)
   unfolding vector_in
   vector_in-holds budget port state =
       let address = stored_short state.devices.history port in
-      elim (address == 0) as (λ b. Q state (cond b (stays state) (vector budget address state))) [
-        | true ↦ holds.nothing state
-        | false ↦ vector-holds budget address state
-      ]
+      either (address == 0) state (stays state) (vector budget address state) (holds.nothing state) (vector-holds budget address state)
 
   unless_over-holds : (rest : State → Trace) → All rest → All (unless_over rest)
   unfolding unless_over
-  unless_over-holds rest all state = elim (is_over state) as (λ b. Q state (cond b (stays state) (rest state))) [
-    | true ↦ holds.nothing state
-    | false ↦ all state
-  ]
+  unless_over-holds rest all state = either (is_over state) state (stays state) (rest state) (holds.nothing state) (all state)
 
   console-holds : (budget byte : ℕ) (kind : EventKind) → All (console budget byte kind)
   unfolding console
@@ -127,71 +136,59 @@ module _ (outputs : Outputs) (Q : State → Trace → Type 0) (holds : HoldsOn o
       holds.then state (unless_over (given first) state) (give_each given rest) (unless_over-holds (given first) (all first) state)
       (each-holds given rest all)
 
-  vector_where-holds : (budget : ℕ) (ended : Bool) (voice : ℕ) → All (vector_where budget ended voice)
-  vector_where-holds budget true voice state = vector_in-holds budget (0x30 + 0x10 * voice) state
-  vector_where-holds budget false voice state = holds.nothing state
-
   heard-holds : (budget : ℕ) → All (heard budget outputs)
   unfolding heard
   heard-holds budget state =
       let ended = endings 735 state.devices.sounds in
-      let samples = samples_bytes (frame_of state.core.memory state.devices.sounds) in
-      let voice-holds : (voice : ℕ) → All (vector_where budget (slice_index_or ended voice false) voice)
-      = λ voice. vector_where-holds budget (slice_index_or ended voice false) voice in
+      let after = with_rendered state in
       holds.then state (samples_kept outputs state) (ended_vectors budget ended)
-      (holds.alike state (with_rendered state) (samples_kept outputs state)
-      (record { memory = refl; working = refl; returns = refl; root = refl; first = refl; second = refl; count = refl })
-      (holds.samples samples (with_rendered state)))
-      (each-holds (λ voice. vector_where budget (slice_index_or ended voice false) voice) (0 ∷ 1 ∷ 2 ∷ 3 ∷ []) voice-holds)
+      (holds.alike state after (samples_kept outputs state) (alike-by state state.core.at after.devices state.tally refl refl refl refl)
+      (holds.samples (samples_bytes (frame_of state.core.memory state.devices.sounds)) after))
+      (each-holds (λ voice. vector_where budget (slice_index_or ended voice false) voice) (0 ∷ 1 ∷ 2 ∷ 3 ∷ []) (λ voice s.
+      either (slice_index_or ended voice false) s (vector_in budget (0x30 + 0x10 * voice) s) (stays s)
+      (vector_in-holds budget (0x30 + 0x10 * voice) s) (holds.nothing s)))
 
-  frame-holds : (budget : ℕ) → All (frame budget outputs)
-  unfolding frame shown_and_heard
-  frame-holds budget state =
-      let begins = with_next_frame state in
-      holds.then state (vector_in budget 0x20 begins) (unless_over (heard budget outputs))
-      (holds.alike state begins (vector_in budget 0x20 begins)
-      (record { memory = refl; working = refl; returns = refl; root = refl; first = refl; second = refl; count = refl })
-      (vector_in-holds budget 0x20 begins))
+  shown-holds : (budget : ℕ) → All (shown_and_heard budget outputs)
+  unfolding shown_and_heard
+  shown-holds budget state =
+      holds.then state (vector_in budget 0x20 state) (unless_over (heard budget outputs)) (vector_in-holds budget 0x20 state)
       (unless_over-holds (heard budget outputs) (heard-holds budget))
 
   shot-holds : All (shot outputs)
   unfolding shot
   shot-holds state =
-      let bytes = picture_bytes state.devices in
-      holds.alike state (with_refreshed state) (makes (appended_to outputs.frames bytes) (with_refreshed state))
-      (record { memory = refl; working = refl; returns = refl; root = refl; first = refl; second = refl; count = refl })
-      (holds.frames bytes (with_refreshed state))
-
-  expected-holds : (port byte : ℕ) → All (expected port byte)
-  unfolding expected
-  expected-holds port byte state =
-      let hit = read_of state.devices state.core port == byte in
-      let after : State = record state { tally = counting_expect hit state.tally } in
-      holds.alike state after (stays after) (expect-alike hit state) (holds.nothing after)
+      let after = with_refreshed state in
+      holds.alike state after (shot outputs state) (alike-by state state.core.at after.devices state.tally refl refl refl refl)
+      (holds.frames (picture_bytes state.devices) after)
 
   happens-holds : (budget : ℕ) (event : Event) → All (happens budget outputs event)
+  unfolding frame expected
   happens-holds budget (Input byte) state = console-holds budget byte event_kind.Input state
   happens-holds budget EndInput state = console-holds budget 0 event_kind.End state
   happens-holds budget (Device input) state = device-holds budget input state
-  happens-holds budget Frame state = frame-holds budget state
+  happens-holds budget Frame state =
+      let begun = with_next_frame state in
+      holds.alike state begun (shown_and_heard budget outputs begun)
+      (alike-by state state.core.at begun.devices state.tally refl refl refl refl) (shown-holds budget begun)
   happens-holds budget Shot state = shot-holds state
-  happens-holds budget (Expect port byte) state = expected-holds port byte state
+  happens-holds budget (Expect port byte) state =
+      let hit = read_of state.devices state.core port == byte in
+      let after = counting_expect hit state.tally in
+      counted-holds after stays state (expect-count hit state.tally) (holds.nothing (record state { tally = after }))
 
-  give-holds : (budget : ℕ) (event : Event) → All (give budget outputs event)
+  given-holds : (budget : ℕ) (pending_input : PendingInput) → All (given budget outputs pending_input)
   unfolding give
-  give-holds budget event state =
-      let begun = with_counted event state in
-      holds.alike state begun (happens budget outputs event begun) (event-alike event state) (happens-holds budget event begun)
+  given-holds budget (OfArgument byte kind) state = console-holds budget byte kind state
+  given-holds budget (OfEvent event) state =
+      counted-holds (counting_event event state.tally) (happens budget outputs event) state (event-count event state.tally)
+      (happens-holds budget event (with_counted event state))
 
   -- so it holds of a whole run
   pub run-holds : (budget : ℕ) (script : ScriptView) (state : State) → Q state (run budget outputs script state)
   unfolding run
   run-holds budget script state =
       let stores = made_ready script.arguments in
-      let arguments = give_each (console_byte budget) (arguments_given script.arguments) in
-      let events = give_each (give budget outputs) script.events in
-      holds.then state (vector budget 0x0100 (with_stored stores state)) (λ reset. followed_by (arguments reset) events)
+      let inputs = give_each (given budget outputs) (pending_inputs_of script) in
+      holds.then state (vector budget 0x0100 (with_stored stores state)) inputs
       (stored-holds stores (vector budget 0x0100) (vector-holds budget 0x0100) state)
-      (λ reset. holds.then reset (arguments reset) events
-      (each-holds (console_byte budget) (arguments_given script.arguments) (λ g. console-holds budget g.0 g.1) reset)
-      (each-holds (give budget outputs) script.events (give-holds budget)))
+      (each-holds (given budget outputs) (pending_inputs_of script) (given-holds budget))

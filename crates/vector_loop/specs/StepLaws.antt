@@ -1,10 +1,9 @@
 -- The steps of a run, taken one after the other, are the run.
 use Rattle.std.specs.Prelude.{◌≡◌, ℕ, zero, suc, ◌==◌, ◌≤◌, ◌⊎◌, true, false, List, []}
 use Rattle.std.proofs.lemmas.Bool.{cases_Bool}
-use Rattle.std.specs.Prelude.{◌∷◌, ◌++◌, map, Option, Some, None}
+use Rattle.std.specs.Prelude.{◌∷◌, Option, Some, None}
 use Rattle.std.proofs.Common.{inl, inr, cond, refl, ap, sym, subst, ◌∙◌, arith}
 use Rattle.std.proofs.lemmas.List.{append-nil}
-use Rattle.play_script.specs.declared.script.Event.{Event}
 use Rattle.play_script.specs.declared.script.Event.TheVariants.{Input, EndInput, Frame, Device, Shot, Expect}
 use Rattle.play_script.specs.Scripts.{ScriptView}
 use Rattle.varvara_bus.specs.History.{stored_short}
@@ -15,8 +14,8 @@ use Rattle.vector_loop.specs.State.{State, with_stored, is_over}
 use Rattle.vector_loop.specs.Trace.{Trace, stays, followed_by}
 use Rattle.vector_loop.specs.Vector.{at_break, instruction, instructions, begun_at, vector}
 use Rattle.vector_loop.specs.Event.{vector_in, unless_over, give_each, console, give}
-use Rattle.vector_loop.specs.Run.{ConsoleByte, console_byte, arguments_given, made_ready, run}
-use Rattle.vector_loop.specs.PendingInputs.{of_argument, pending_inputs_of, given, console_byte_of, counted_input}
+use Rattle.vector_loop.specs.Run.{made_ready, run}
+use Rattle.vector_loop.specs.PendingInputs.{ConsoleByte, pending_inputs_of, given, console_byte_of, counted_input}
 use Rattle.vector_loop.specs.Places.{Place, place, PlaceHasEnded, cut_at, one_instruction, instruction_step, come_to, holding, vector_begins}
 use Rattle.vector_loop.specs.Places.{giving_by, idle_step, next_place, step, after_steps, run_begun, vector_left, run_left, whole_run, StepsAre}
 use Rattle.vector_loop.specs.TraceLaws.{followed_by-again, followed_by-at, stays-after}
@@ -37,15 +36,15 @@ goes_on (suc less) done rest =
     ap (λ t. followed_by done (λ s. t)) (followed_by-again one (instructions (suc less)) rest)
     ∙ sym (followed_by-again done (λ s. one) (λ s. followed_by (instructions (suc less) s) rest))
 
-instruction-keeps : (budget : ℕ) (outputs : Outputs) (less : ℕ) (done : Trace) (pending_inputs : List PendingInput)
-    → whole_run budget outputs (place done (suc less) pending_inputs) ≡ whole_run budget outputs (instruction_step less done pending_inputs)
+instruction-keeps : (budget : ℕ) (outputs : Outputs) (less : ℕ) (done : Trace) (later : List PendingInput)
+    → whole_run budget outputs (place done (suc less) later) ≡ whole_run budget outputs (instruction_step less done later)
 unfolding instruction_step instructions
-instruction-keeps budget outputs less done pending_inputs =
-    let rest = give_each (given budget outputs) pending_inputs in
+instruction-keeps budget outputs less done later =
+    let rest = give_each (given budget outputs) later in
     let one = instruction done.last in
     elim (at_break done.last) as (λ b. followed_by done (λ s. followed_by (cond b one (followed_by one (instructions less))) rest)
     ≡ followed_by (followed_by done (λ s. record one { last = cond b one.last (cut_at less one.last) }))
-    (run_left budget outputs (cond b 0 less) pending_inputs)) [
+    (run_left budget outputs (cond b 0 less) later)) [
       | true ↦ sym (followed_by-again done (λ s. one) rest)
       | false ↦ goes_on less done rest
     ]
@@ -56,25 +55,26 @@ unfolding vector
 vector-begun zero address state some = absurd (omega (arith, some))
 vector-begun (suc less) address state some = refl
 
-begins-keeps : (budget : ℕ) (outputs : Outputs) (held : State) (done : Trace) (pending_inputs : List PendingInput) → 1 ≤ budget
-    → followed_by done (λ s. followed_by (vector_in budget 0x10 held) (give_each (given budget outputs) pending_inputs))
-    ≡ whole_run budget outputs (vector_begins budget held done pending_inputs)
+begins-keeps : (budget : ℕ) (outputs : Outputs) (held : State) (done : Trace) (later : List PendingInput) → 1 ≤ budget
+    → followed_by done (λ s. followed_by (vector_in budget 0x10 held) (give_each (given budget outputs) later))
+    ≡ whole_run budget outputs (vector_begins budget held done later)
 unfolding vector_begins vector_in
-begins-keeps budget outputs held done pending_inputs some =
+begins-keeps budget outputs held done later some =
     let address = stored_short held.devices.history 0x10 in
-    let rest = give_each (given budget outputs) pending_inputs in
+    let rest = give_each (given budget outputs) later in
     elim (address == 0) as (λ b. followed_by done (λ s. followed_by (cond b (stays held) (vector budget address held)) rest)
-    ≡ whole_run budget outputs (cond b (place (come_to held done) 0 pending_inputs) (place (come_to (begun_at address held) done) budget pending_inputs))) [
+    ≡ whole_run budget outputs (cond b (place (come_to held done) 0 later) (place (come_to (begun_at address held) done) budget later))) [
       | true ↦ refl
       | false ↦ ap (λ t. followed_by done (λ s. followed_by t rest)) (vector-begun budget address held some)
     ]
 
 -- what is for the console is held there, and then its vector is run
 HoldsFirst : ℕ → Outputs → PendingInput → State → Option ConsoleByte → Type 0
-HoldsFirst budget outputs pending_input state (Some byte) = given budget outputs pending_input state ≡ vector_in budget 0x10 (holding byte (counted_input pending_input state))
-HoldsFirst budget outputs pending_input state None = Unit {0}
+HoldsFirst budget outputs input state (Some byte) = given budget outputs input state ≡ vector_in budget 0x10
+    (holding byte (counted_input input state))
+HoldsFirst budget outputs input state None = Unit {0}
 
-holds_first : (budget : ℕ) (outputs : Outputs) (pending_input : PendingInput) (state : State) → HoldsFirst budget outputs pending_input state (console_byte_of pending_input)
+holds_first : (budget : ℕ) (outputs : Outputs) (input : PendingInput) (state : State) → HoldsFirst budget outputs input state (console_byte_of input)
 unfolding HoldsFirst console give
 holds_first budget outputs (OfArgument byte kind) state = refl
 holds_first budget outputs (OfEvent (Input byte)) state = refl
@@ -84,38 +84,39 @@ holds_first budget outputs (OfEvent (Device input)) state = tt
 holds_first budget outputs (OfEvent Shot) state = tt
 holds_first budget outputs (OfEvent (Expect port byte)) state = tt
 
-giving-keeps : (budget : ℕ) (outputs : Outputs) (pending_input : PendingInput) (byte : Option ConsoleByte) (done : Trace) (pending_inputs : List PendingInput) → 1 ≤ budget
-    → HoldsFirst budget outputs pending_input done.last byte
-    → followed_by done (λ s. followed_by (given budget outputs pending_input done.last) (give_each (given budget outputs) pending_inputs))
-    ≡ whole_run budget outputs (giving_by budget outputs pending_input byte done pending_inputs)
+giving-keeps : (budget : ℕ) (outputs : Outputs) (input : PendingInput) (byte : Option ConsoleByte) (done : Trace) (later : List PendingInput)
+    → 1 ≤ budget
+    → HoldsFirst budget outputs input done.last byte
+    → followed_by done (λ s. followed_by (given budget outputs input done.last) (give_each (given budget outputs) later))
+    ≡ whole_run budget outputs (giving_by budget outputs input byte done later)
 unfolding HoldsFirst
-giving-keeps budget outputs pending_input (Some byte) done pending_inputs some holds =
-    ap (λ t. followed_by done (λ s. followed_by t (give_each (given budget outputs) pending_inputs))) holds
-    ∙ begins-keeps budget outputs (holding byte (counted_input pending_input done.last)) done pending_inputs some
-giving-keeps budget outputs pending_input None done pending_inputs some holds =
-    sym (followed_by-again done (given budget outputs pending_input) (give_each (given budget outputs) pending_inputs))
+giving-keeps budget outputs input (Some byte) done later some holds =
+    ap (λ t. followed_by done (λ s. followed_by t (give_each (given budget outputs) later))) holds
+    ∙ begins-keeps budget outputs (holding byte (counted_input input done.last)) done later some
+giving-keeps budget outputs input None done later some holds =
+    sym (followed_by-again done (given budget outputs input) (give_each (given budget outputs) later))
 
-idle-by : (budget : ℕ) (outputs : Outputs) (pending_input : PendingInput) (done : Trace) (pending_inputs : List PendingInput) → 1 ≤ budget
+idle-by : (budget : ℕ) (outputs : Outputs) (input : PendingInput) (done : Trace) (later : List PendingInput) → 1 ≤ budget
     → (is_over done.last ≡ true) ⊎ (is_over done.last ≡ false)
-    → whole_run budget outputs (place done 0 (pending_input ∷ pending_inputs)) ≡ whole_run budget outputs (idle_step budget outputs done (pending_input ∷ pending_inputs))
+    → whole_run budget outputs (place done 0 (input ∷ later)) ≡ whole_run budget outputs (idle_step budget outputs done (input ∷ later))
 unfolding give_each unless_over
-idle-by budget outputs pending_input done pending_inputs some (inl over) =
-    let here = place done 0 (pending_input ∷ pending_inputs) in
-    let next = giving_by budget outputs pending_input (console_byte_of pending_input) done pending_inputs in
+idle-by budget outputs input done later some (inl over) =
+    let here = place done 0 (input ∷ later) in
+    let next = giving_by budget outputs input (console_byte_of input) done later in
     sym (ap (λ b. whole_run budget outputs (cond b here next)) over)
-idle-by budget outputs pending_input done pending_inputs some (inr goes) =
-    let here = place done 0 (pending_input ∷ pending_inputs) in
-    let next = giving_by budget outputs pending_input (console_byte_of pending_input) done pending_inputs in
-    let rest = give_each (given budget outputs) pending_inputs in
-    ap (λ b. followed_by done (λ s. followed_by (cond b (stays done.last) (given budget outputs pending_input done.last)) rest)) goes
-    ∙ giving-keeps budget outputs pending_input (console_byte_of pending_input) done pending_inputs some (holds_first budget outputs pending_input done.last)
+idle-by budget outputs input done later some (inr goes) =
+    let here = place done 0 (input ∷ later) in
+    let next = giving_by budget outputs input (console_byte_of input) done later in
+    let rest = give_each (given budget outputs) later in
+    ap (λ b. followed_by done (λ s. followed_by (cond b (stays done.last) (given budget outputs input done.last)) rest)) goes
+    ∙ giving-keeps budget outputs input (console_byte_of input) done later some (holds_first budget outputs input done.last)
     ∙ sym (ap (λ b. whole_run budget outputs (cond b here next)) goes)
 
-step-of-keeps : (budget : ℕ) (outputs : Outputs) (left : ℕ) (done : Trace) (pending_inputs : List PendingInput) → 1 ≤ budget
-    → whole_run budget outputs (place done left pending_inputs) ≡ whole_run budget outputs (next_place budget outputs left done pending_inputs)
+step-of-keeps : (budget : ℕ) (outputs : Outputs) (left : ℕ) (done : Trace) (later : List PendingInput) → 1 ≤ budget
+    → whole_run budget outputs (place done left later) ≡ whole_run budget outputs (next_place budget outputs left done later)
 step-of-keeps budget outputs zero done [] some = refl
-step-of-keeps budget outputs zero done (pending_input ∷ pending_inputs) some = idle-by budget outputs pending_input done pending_inputs some (cases_Bool (is_over done.last))
-step-of-keeps budget outputs (suc less) done pending_inputs some = instruction-keeps budget outputs less done pending_inputs
+step-of-keeps budget outputs zero done (input ∷ later) some = idle-by budget outputs input done later some (cases_Bool (is_over done.last))
+step-of-keeps budget outputs (suc less) done later some = instruction-keeps budget outputs less done later
 
 steps-keep : (budget : ℕ) (outputs : Outputs) (begun : Place) (count : ℕ) → 1 ≤ budget
     → whole_run budget outputs begun ≡ whole_run budget outputs (after_steps budget outputs count begun)
@@ -126,51 +127,12 @@ steps-keep budget outputs begun (suc count) some =
     steps-keep budget outputs begun count some ∙ step-of-keeps budget outputs now.left now.done now.pending_inputs some
 
 -- the whole run, as it begins
-each-append : {X : Type 0} (given : X → State → Trace) (first more : List X) (state : State)
-    → give_each given (first ++ more) state ≡ followed_by (give_each given first state) (give_each given more)
-unfolding give_each
-each-append given [] more state = refl
-each-append given (x ∷ first) more state =
-    let item = unless_over (given x) state in
-    followed_by-at item (give_each given (first ++ more)) (λ s. followed_by (give_each given first s) (give_each given more))
-    (each-append given first more item.last)
-    ∙ sym (followed_by-again item (give_each given first) (give_each given more))
-
-each-map : {X Y : Type 0} (given : Y → State → Trace) (made : X → Y) (xs : List X) (state : State)
-    → give_each given (map made xs) state ≡ give_each (λ x. given (made x)) xs state
-unfolding give_each
-each-map given made [] state = refl
-each-map given made (x ∷ xs) state =
-    let first = unless_over (given (made x)) state in
-    followed_by-at first (give_each given (map made xs)) (give_each (λ y. given (made y)) xs) (each-map given made xs first.last)
-
-pending_inputs-given : (budget : ℕ) (outputs : Outputs) (bytes : List ConsoleByte) (events : List Event) (state : State)
-    → give_each (given budget outputs) (map of_argument bytes ++ map OfEvent events) state
-    ≡ followed_by (give_each (console_byte budget) bytes state) (give_each (give budget outputs) events)
-pending_inputs-given budget outputs bytes events state =
-    let first = give_each (console_byte budget) bytes state in
-    each-append (given budget outputs) (map of_argument bytes) (map OfEvent events) state
-    ∙ ap (λ t. followed_by t (give_each (given budget outputs) (map OfEvent events))) (each-map (given budget outputs) of_argument bytes state)
-    ∙ followed_by-at first (give_each (given budget outputs) (map OfEvent events)) (give_each (give budget outputs) events)
-    (each-map (given budget outputs) OfEvent events first.last)
-
--- what a script gives, behind the reset vector
-pub run-pending_inputs : (budget : ℕ) (outputs : Outputs) (script : ScriptView) (state : State)
-    → run budget outputs script state
-    ≡ followed_by (vector budget 0x0100 (with_stored (made_ready script.arguments) state)) (give_each (given budget outputs) (pending_inputs_of script))
-unfolding run
-run-pending_inputs budget outputs script state =
-    let reset = vector budget 0x0100 (with_stored (made_ready script.arguments) state) in
-    sym (followed_by-at reset (give_each (given budget outputs) (pending_inputs_of script))
-    (λ s. followed_by (give_each (console_byte budget) (arguments_given script.arguments) s) (give_each (give budget outputs) script.events))
-    (pending_inputs-given budget outputs (arguments_given script.arguments) script.events reset.last))
-
 run-begins : (budget : ℕ) (outputs : Outputs) (script : ScriptView) (state : State) → 1 ≤ budget
     → whole_run budget outputs (run_begun budget script state) ≡ run budget outputs script state
+unfolding run
 run-begins budget outputs script state some =
     ap (λ t. followed_by t (give_each (given budget outputs) (pending_inputs_of script)))
     (sym (vector-begun budget 0x0100 (with_stored (made_ready script.arguments) state) some))
-    ∙ sym (run-pending_inputs budget outputs script state)
 
 -- nothing is left of a run that is over
 over-nothing : {X : Type 0} (given : X → State → Trace) (xs : List X) (state : State) → is_over state ≡ true
@@ -180,12 +142,12 @@ over-nothing given [] state over = refl
 over-nothing given (x ∷ xs) state over =
     ap (λ b. followed_by (cond b (stays state) (given x state)) (give_each given xs)) over ∙ over-nothing given xs state over
 
-pub ended-nothing : (budget : ℕ) (outputs : Outputs) (left : ℕ) (pending_inputs : List PendingInput) (state : State) → left ≡ 0
-    → (is_over state ≡ true) ⊎ (pending_inputs ≡ []) → run_left budget outputs left pending_inputs state ≡ stays state
+pub ended-nothing : (budget : ℕ) (outputs : Outputs) (left : ℕ) (later : List PendingInput) (state : State) → left ≡ 0
+    → (is_over state ≡ true) ⊎ (later ≡ []) → run_left budget outputs left later state ≡ stays state
 unfolding give_each
-ended-nothing budget outputs zero pending_inputs state idle (inl over) = over-nothing (given budget outputs) pending_inputs state over
-ended-nothing budget outputs zero pending_inputs state idle (inr none) = ap (λ g. give_each (given budget outputs) g state) none
-ended-nothing budget outputs (suc less) pending_inputs state idle over = absurd (omega (arith, idle))
+ended-nothing budget outputs zero later state idle (inl over) = over-nothing (given budget outputs) later state over
+ended-nothing budget outputs zero later state idle (inr none) = ap (λ g. give_each (given budget outputs) g state) none
+ended-nothing budget outputs (suc less) later state idle over = absurd (omega (arith, idle))
 
 ended-whole : (budget : ℕ) (outputs : Outputs) (now : Place) → PlaceHasEnded now → now.done ≡ whole_run budget outputs now
 ended-whole budget outputs now ended =
@@ -208,44 +170,44 @@ ends-later budget outputs now ends =
 
 -- where a run with these pending inputs left ends, whatever was done
 abbrev EndsIdle : ℕ → Outputs → List PendingInput → Type 0
-EndsIdle budget outputs pending_inputs = (done : Trace) → Ends budget outputs (place done 0 pending_inputs)
+EndsIdle budget outputs later = (done : Trace) → Ends budget outputs (place done 0 later)
 
-vector-ends : (budget : ℕ) (outputs : Outputs) (pending_inputs : List PendingInput) → EndsIdle budget outputs pending_inputs → (left : ℕ) (done : Trace)
-    → Ends budget outputs (place done left pending_inputs)
+vector-ends : (budget : ℕ) (outputs : Outputs) (later : List PendingInput) → EndsIdle budget outputs later → (left : ℕ) (done : Trace)
+    → Ends budget outputs (place done left later)
 unfolding step instruction_step
-vector-ends budget outputs pending_inputs idle zero done = idle done
-vector-ends budget outputs pending_inputs idle (suc less) done =
+vector-ends budget outputs later idle zero done = idle done
+vector-ends budget outputs later idle (suc less) done =
     let now = followed_by done (one_instruction less) in
-    ends-later budget outputs (place done (suc less) pending_inputs)
-    (elim (at_break done.last) as (λ b. Ends budget outputs (place now (cond b 0 less) pending_inputs)) [
+    ends-later budget outputs (place done (suc less) later)
+    (elim (at_break done.last) as (λ b. Ends budget outputs (place now (cond b 0 less) later)) [
       | true ↦ idle now
-      | false ↦ vector-ends budget outputs pending_inputs idle less now
+      | false ↦ vector-ends budget outputs later idle less now
     ])
 
-giving-ends : (budget : ℕ) (outputs : Outputs) (pending_input : PendingInput) (byte : Option ConsoleByte) (done : Trace) (pending_inputs : List PendingInput)
-    → EndsIdle budget outputs pending_inputs → Ends budget outputs (giving_by budget outputs pending_input byte done pending_inputs)
+giving-ends : (budget : ℕ) (outputs : Outputs) (input : PendingInput) (byte : Option ConsoleByte) (done : Trace) (later : List PendingInput)
+    → EndsIdle budget outputs later → Ends budget outputs (giving_by budget outputs input byte done later)
 unfolding vector_begins
-giving-ends budget outputs pending_input (Some byte) done pending_inputs idle =
-    let held = holding byte (counted_input pending_input done.last) in
+giving-ends budget outputs input (Some byte) done later idle =
+    let held = holding byte (counted_input input done.last) in
     let address = stored_short held.devices.history 0x10 in
     let next = come_to (begun_at address held) done in
-    elim (address == 0) as (λ b. Ends budget outputs (cond b (place (come_to held done) 0 pending_inputs) (place next budget pending_inputs))) [
+    elim (address == 0) as (λ b. Ends budget outputs (cond b (place (come_to held done) 0 later) (place next budget later))) [
       | true ↦ idle (come_to held done)
-      | false ↦ vector-ends budget outputs pending_inputs idle budget next
+      | false ↦ vector-ends budget outputs later idle budget next
     ]
-giving-ends budget outputs pending_input None done pending_inputs idle = idle (followed_by done (given budget outputs pending_input))
+giving-ends budget outputs input None done later idle = idle (followed_by done (given budget outputs input))
 
-idle-ends : (budget : ℕ) (outputs : Outputs) (pending_inputs : List PendingInput) → EndsIdle budget outputs pending_inputs
+idle-ends : (budget : ℕ) (outputs : Outputs) (later : List PendingInput) → EndsIdle budget outputs later
 unfolding step
 idle-ends budget outputs [] done = (0, (refl, inr refl))
-idle-ends budget outputs (pending_input ∷ pending_inputs) done =
-    let here = place done 0 (pending_input ∷ pending_inputs) in
-    let next = giving_by budget outputs pending_input (console_byte_of pending_input) done pending_inputs in
+idle-ends budget outputs (input ∷ later) done =
+    let here = place done 0 (input ∷ later) in
+    let next = giving_by budget outputs input (console_byte_of input) done later in
     elim (cases_Bool (is_over done.last)) [
       | inl over ↦ (0, (refl, inl over))
       | inr goes ↦
           let P : Place → Type 0 = λ p. Ends budget outputs p in
-          let ends = giving-ends budget outputs pending_input (console_byte_of pending_input) done pending_inputs (idle-ends budget outputs pending_inputs) in
+          let ends = giving-ends budget outputs input (console_byte_of input) done later (idle-ends budget outputs later) in
           ends-later budget outputs here (subst P (sym (ap (λ b. cond b here next) goes)) ends)
     ]
 

@@ -1,5 +1,5 @@
 -- Where a run stopped: what was done whole before, and the one step that was not (profile).
-use Rattle.std.specs.Prelude.{◌≡◌, ◌≢◌, ℕ, List, [], ◌++◌, ◌⊎◌, Option, IfSome, Err}
+use Rattle.std.specs.Prelude.{◌≡◌, ◌≢◌, ℕ, List, [], ◌⊎◌, Option, IfSome, Err}
 use Rattle.uxn_io_traits.specs.Files.{Nodes}
 use Rattle.uxn_opcodes.specs.declared.Core.{Core}
 use Rattle.uxn_opcodes.specs.declared.Stop.{Stop}
@@ -15,13 +15,14 @@ use Rattle.vector_loop.specs.State.{State, counting_event}
 use Rattle.vector_loop.specs.Trace.{Trace, makes, followed_by}
 use Rattle.vector_loop.specs.Outputs.{appended_to}
 use Rattle.vector_loop.specs.Vector.{instruction}
-use Rattle.vector_loop.specs.Watch.{page_in, moment_of, shown_all}
+use Rattle.vector_loop.specs.Watch.{page_in, moment_of}
 use Rattle.vector_loop.specs.Follows.{Models, Running, running, running_state, Follows, FollowsFrom}
 
 -- a shot, whatever becomes of its picture, is counted, refreshes the screen, and else leaves the machine as it was
 pub record ShotLeaves {T O E W : Type 0} (contents_of_tree : T → Option Nodes) (before now : Running T O E W) : Type 0 where
   pub core : now.core ≡ before.core
-  pub devices : (devices : DeviceState) → BusRepresents contents_of_tree before.bus devices → DevicesRepresent now.bus.devices.now (screen_refreshed devices)
+  pub devices : (devices : DeviceState) → BusRepresents contents_of_tree before.bus devices
+      → DevicesRepresent now.bus.devices.now (screen_refreshed devices)
   pub tally : now.tally ≡ counting_event Shot before.tally
   pub watcher : now.watcher ≡ before.watcher
 
@@ -90,17 +91,3 @@ module _ {T O E W H : Type 0} (models : Models T O E W H) where
       : Type 0 where
     pub tally : Tally
     pub stops : StopsInFrom before (running core bus tally watcher) stop part ⊎ EndRefused before (running core bus tally watcher) stop part
-
-  -- what the watcher was shown until a stop: these moments, a prefix of those of the trace, in order, and not the end. It holds what it is to
-  -- hold then, or, where it refused, what it may hold after that
-  pub record ShownUntil (before now : Running T O E W) (stop : Stop) (trace : Trace) : Type 0 where
-    pub observed : List State
-    pub unobserved : List State
-    pub prefix : trace.moments ≡ observed ++ unobserved
-    pub watcher : W
-    pub holds : models.held watcher ≡ shown_all models.shown (models.held before.watcher) observed
-    pub left : (now.watcher ≡ watcher) ⊎ (models.may_refuse (models.held watcher) (models.held now.watcher) × (stop ≡ NoMemory))
-
-  pub record ShownUntilFrom (before now : Running T O E W) (stop : Stop) (part : State → Trace) : Type 0 where
-    pub from : (devices : DeviceState) → BusRepresents (contents_on models.meaning.tree) before.bus devices
-        → ShownUntil before now stop (part (running_state before devices))

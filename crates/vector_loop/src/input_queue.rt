@@ -1,7 +1,7 @@
 //! What is still to be given of a script.
-ghost use Rattle.std.specs.Prelude.{◌≡◌, ◌↔◌, ◌∷◌, [], true, drop, length, slice_get};
-ghost use Rattle.vector_loop.specs.Run.{kind_before};
-ghost use Rattle.vector_loop.specs.PendingInputs.{pending_inputs_of};
+ghost use Rattle.std.specs.Prelude.{◌≡◌, ◌↔◌, ◌∷◌, [], true, drop, length, slice_get, slice_index_or};
+ghost use Rattle.play_script.specs.Held.{bytes_in};
+ghost use Rattle.vector_loop.specs.PendingInputs.{kind_before, pending_inputs_of};
 
 use crate::pending_input::PendingInput;
 use console_port::EventKind;
@@ -12,9 +12,9 @@ use uxn_io_traits::Bytes;
 /// What is still to be given of a script: the bytes of its arguments, with a newline behind each, and then its events.
 #[derive(Drop)]
 pub struct InputQueue<'a> {
+    // What is left of the first of the arguments.
+    bytes: &'a [u8],
     arguments: &'a [Bytes],
-    // How many bytes of the first of them were given.
-    at: usize,
     events: &'a [Event],
 }
 
@@ -22,13 +22,11 @@ impl<'a> Model for InputQueue<'a> {
     ghost use Rattle.std.specs.Prelude.{List};
     ghost use Rattle.play_script.specs.Held.{bytes_in};
     ghost use Rattle.vector_loop.specs.declared.pending_input.PendingInput.{PendingInput};
-    ghost use Rattle.vector_loop.specs.PendingInputs.{pending_left, IsWithinFirst};
+    ghost use Rattle.vector_loop.specs.PendingInputs.{pending_left};
 
     ghost Value = { List PendingInput };
 
-    ghost view = { λ g. pending_left (bytes_in g.arguments.now) g.at g.events.now };
-
-    ghost invariant = { λ g. IsWithinFirst g.at (bytes_in g.arguments.now) };
+    ghost view = { λ g. pending_left g.bytes.now (bytes_in g.arguments.now) g.events.now };
 }
 
 impl<'a> InputQueue<'a> {
@@ -36,9 +34,10 @@ impl<'a> InputQueue<'a> {
     pub fn new(script: &'a Script) -> InputQueue<'a>
         ensures { result ≡ pending_inputs_of script.now }
     {
+        let arguments = script.args();
         InputQueue {
-            arguments: script.args(),
-            at: 0,
+            bytes: first_of(arguments),
+            arguments,
             events: script.events(),
         }
     }
@@ -55,15 +54,13 @@ impl<'a> InputQueue<'a> {
         ensures value { result ≡ slice_get self.old 0 }
         ensures rest { self.new ≡ drop 1 self.old }
     {
-        if let [text, later @ ..] = self.arguments {
-            let bytes = text.as_slice();
-            if self.at < bytes.len() {
-                let byte = bytes[self.at];
-                self.at += 1;
-                return Some(PendingInput::OfArgument(byte, EventKind::Argument));
+        if let [_, later @ ..] = self.arguments {
+            if let [byte, rest @ ..] = self.bytes {
+                self.bytes = rest;
+                return Some(PendingInput::OfArgument(*byte, EventKind::Argument));
             }
             self.arguments = later;
-            self.at = 0;
+            self.bytes = first_of(later);
             return Some(PendingInput::OfArgument(b'\n', kind_before(later)));
         }
         let [event, later @ ..] = self.events else {
@@ -71,6 +68,16 @@ impl<'a> InputQueue<'a> {
         };
         self.events = later;
         Some(PendingInput::OfEvent(*event))
+    }
+}
+
+// The bytes of the first argument, if there is one.
+fn first_of(arguments: &[Bytes]) -> &[u8]
+    ensures { result.now ≡ slice_index_or (bytes_in arguments.now) 0 [] }
+{
+    match arguments {
+        [text, ..] => text.as_slice(),
+        [] => &[],
     }
 }
 

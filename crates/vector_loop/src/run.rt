@@ -1,5 +1,5 @@
 //! Whole runs.
-ghost use Rattle.std.specs.Prelude.{◌≡◌, ◌+◌, ◌≤◌, ◌⊎◌, None, length, OnOk, OnErr, IfOk, IfErr};
+ghost use Rattle.std.specs.Prelude.{◌≡◌, ◌+◌, ◌≤◌, ◌⊎◌, None, OnOk, OnErr, IfOk, IfErr};
 ghost use Rattle.uxn_io_traits.specs.Ended.{RefusesNone};
 ghost use Rattle.uxn_io_traits.specs.Faults.{Ledger};
 ghost use Rattle.uxn_opcodes.specs.Ports.{result_blame};
@@ -78,7 +78,7 @@ impl<'r, 'a, T: Tree, O: Sink, E: Sink, W: Watcher> Runner<'r, 'a, T, O, E, W> {
     /// Runs the reset vector, and gives the arguments and the events of a script.
     fn run(&mut self, script: &Script, outputs: &Outputs) -> Result<(), Stop>
         requires outputs { HasOutputs (contents_on T.Tree) outputs.now self.old }
-        requires frames { frames_begun self.old.bus.now + length script.now.events ≤ 1000000 }
+        requires frames { frames_begun self.old.bus.now + (most_of script.now).events ≤ 1000000 }
         requires room { HasTallyRoom self.old.tally self.old.budget (most_of script.now) }
         ensures { Answers (models_of T.Tree O.Sink E.Sink W.Watcher) self.old self.new
             (run self.old.budget outputs.now script.now) (most_of script.now) result }

@@ -37,8 +37,9 @@ fn run_instructions<'a, T: Tree, O: Sink, E: Sink, W: Watcher>(
 ) -> Ran
     requires budget { 1 ≤ budget }
     requires room { tally.now.instructions + budget < 2 ^ 64 }
-    ensures { RanTo (models_of T.Tree O.Sink E.Sink W.Watcher) (running core.old bus.old tally.now watcher.old)
-        core.new bus.new watcher.new budget result.left result.end }
+    ensures within { result.left ≤ budget }
+    ensures ran { RanTo (models_of T.Tree O.Sink E.Sink W.Watcher) (running core.old bus.old tally.now watcher.old)
+        core.new bus.new watcher.new budget (budget - result.left) result.end }
 {
     let start = tally.instructions;
     let mut left = budget;
@@ -123,6 +124,7 @@ impl<'r, 'a, T: Tree, O: Sink, E: Sink, W: Watcher> Runner<'r, 'a, T, O, E, W> {
 }
 
 /// Runs instructions from an address on, up to and with the first BRK, or exactly `budget` of them.
+#[tactic(auto, using(crate::proofs::Stopping::falls_short_from))]
 pub fn run_vector<'a, T: Tree, O: Sink, E: Sink, W: Watcher>(
     core: &mut Core,
     bus: &mut Bus<'a, T, O, E>,

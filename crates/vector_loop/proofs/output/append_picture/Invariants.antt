@@ -1,8 +1,8 @@
-use Rattle.std.proofs.Common.{◌-◌}
+use Rattle.std.proofs.Common.{◌≡◌, ◌-◌}
 use Rattle.std.specs.List.{flat_map, range_with_len}
 use Rattle.screen_layers.specs.Pictures.{picture_row_of}
 use Rattle.vector_loop.specs.Outputs.{picture_bytes}
-use Rattle.varvara_bus.specs.Bus.{meaning_of}
+use Rattle.varvara_bus.specs.Bus.{SameBus, meaning_of, screen_of}
 use Rattle.vector_loop.proofs.Makings.{Putting}
 use Rattle.vector_loop.proofs.output.append_picture.Given as goal
 
@@ -10,4 +10,6 @@ abbrev pub invariant-loop-y : goal.invariant-loop-y
 invariant-loop-y g l = record {
   putting : Putting (meaning_of g.T.Tree g.O.Sink g.E.Sink) l.fn.bus l.bus l.path picture_bytes
       (λ s. flat_map (picture_row_of l.palette.colours s.picture) (range_with_len l.y (l.height - l.y)));
+  same : SameBus g.T.Tree l.fn.bus l.bus;
+  height : (screen_of l.bus).height ≡ (screen_of l.fn.bus).height;
 }

@@ -1,36 +1,46 @@
 use Rattle.std.proofs.Common.{◌-◌, arith}
-use Rattle.uxn_opcodes.specs.Rule.{moved}
 use Rattle.uxn_opcodes.specs.declared.Turn.{Turn}
-use Rattle.vector_loop.proofs.Vectors.{along-start, along-ran, ran-broke, ran-stopped, ran-refused, ran-cut}
+use Rattle.vector_loop.specs.Follows.{models_of}
+use Rattle.vector_loop.proofs.Vectors.{along-start, along-ran, along-end, ran-broke, ran-stopped, ran-refused, ran-cut}
 use Rattle.vector_loop.proofs.vector.run_instructions.Goals as goal
 
 pub loop-core-init : goal.loop-core-init
-loop-core-init g c = record { along = along-start _ _ c.args.budget; some = c.requires.budget }
+loop-core-init g c = record { within = omega arith; along = along-start _ _ c.args.budget _ (omega arith); some = c.requires.budget }
 
 pub loop-core-preserved : goal.loop-core-preserved
-loop-core-preserved g c = record {
-  along = along-ran _ _ _ _ _ _ _ _ c.args.budget c.loop-core.left (c.loop-core.left - 1) (omega (arith, c.loop-core.invariant.some))
-      c.loop-core.invariant.along c.in-Ok.ensures.ok (rw (c.in-Ok-Ran.field-0-is, c.in-Ok.ensures.core) at c.in-Ok-Ran.ensures.instruction) c.in-Ok-Ran.ensures.ledger;
-  some = omega (arith, c.loop-core.invariant.some, c.if-left-eq0.false);
-}
+loop-core-preserved g c =
+    let inv = c.loop-core.invariant in
+    record {
+      within = omega (arith, inv.within);
+      along = along-ran _ _ _ _ _ c.args.budget _ c.loop-core.left inv.along _ _ _ _ (c.loop-core.left - 1) (omega (arith, inv.within, inv.some))
+          (omega (arith, inv.some)) c.in-Ok.ensures.ok (rw (c.in-Ok-Ran.field-0-is, c.in-Ok.ensures.core) at c.in-Ok-Ran.ensures.instruction)
+          c.in-Ok-Ran.ensures.ledger;
+      some = omega (arith, inv.some, c.if-left-eq0.false);
+    }
 
-pub returns-in_default : goal.returns-in_default
-returns-in_default g c =
-    rw c.in_default.ensures.core (ran-refused _ _ _ (moved c.loop-core.core c.loop-core.at) _ c.loop-core.bus _ _ c.args.budget c.loop-core.left (c.loop-core.left - 1)
-    (omega (arith, c.loop-core.invariant.some)) c.loop-core.invariant.along c.in_default.ensures.err)
+pub returns-in_default-clause-ran : goal.returns-in_default-clause-ran
+returns-in_default-clause-ran g c =
+    rw c.in_default.ensures.core (along-end _ _ _ _ _ c.args.budget _ c.loop-core.left c.loop-core.invariant.along _ _ _ _
+    (ran-refused _ _ c.loop-core.left (c.loop-core.left - 1) (omega (arith, c.loop-core.invariant.some)) _ c.in_default.ensures.err))
 
-pub returns-in-Ok-Broke : goal.returns-in-Ok-Broke
-returns-in-Ok-Broke g c =
-    ran-broke _ _ _ _ _ _ _ _ c.args.budget c.loop-core.left (c.loop-core.left - 1) (omega (arith, c.loop-core.invariant.some))
-    c.loop-core.invariant.along c.in-Ok.ensures.ok (rw (c.in-Ok-Broke.field-0-is, c.in-Ok.ensures.core) at c.in-Ok-Broke.ensures.instruction) c.in-Ok-Broke.ensures.ledger
+pub returns-in-Ok-Broke-clause-ran : goal.returns-in-Ok-Broke-clause-ran
+returns-in-Ok-Broke-clause-ran g c =
+    along-end _ _ _ _ _ c.args.budget _ c.loop-core.left c.loop-core.invariant.along _ _ _ _
+    (ran-broke (models_of g.T.Tree g.O.Sink g.E.Sink g.W.Watcher) _ c.loop-core.left (c.loop-core.left - 1)
+    (omega (arith, c.loop-core.invariant.some)) _ _ _ c.in-Ok.ensures.ok
+    (rw (c.in-Ok-Broke.field-0-is, c.in-Ok.ensures.core) at c.in-Ok-Broke.ensures.instruction) c.in-Ok-Broke.ensures.ledger)
 
-pub returns-in-Err : goal.returns-in-Err
-returns-in-Err g c =
-    ran-stopped _ _ _ _ _ _ _ _ c.args.budget c.loop-core.left (c.loop-core.left - 1) (omega (arith, c.loop-core.invariant.some))
-    c.loop-core.invariant.along Turn _ c.in-Ok.ensures.ok (rw c.in-Ok.ensures.core at c.in-Err.ensures.instruction) c.in-Err.ensures.ledger
+pub returns-in-Err-clause-ran : goal.returns-in-Err-clause-ran
+returns-in-Err-clause-ran g c =
+    along-end _ _ _ _ _ c.args.budget _ c.loop-core.left c.loop-core.invariant.along _ _ _ _
+    (ran-stopped (models_of g.T.Tree g.O.Sink g.E.Sink g.W.Watcher) _ c.loop-core.left (c.loop-core.left - 1)
+    (omega (arith, c.loop-core.invariant.some)) _ _ _ Turn _ c.in-Ok.ensures.ok
+    (rw c.in-Ok.ensures.core at c.in-Err.ensures.instruction) c.in-Err.ensures.ledger)
 
-pub returns-then-left-eq0 : goal.returns-then-left-eq0
-returns-then-left-eq0 g c =
-    ran-cut _ _ _ _ _ c.args.budget
-    (along-ran _ _ _ _ _ _ _ _ c.args.budget c.loop-core.left 0 (omega (arith, c.loop-core.invariant.some, c.if-left-eq0.true))
-    c.loop-core.invariant.along c.in-Ok.ensures.ok (rw (c.in-Ok-Ran.field-0-is, c.in-Ok.ensures.core) at c.in-Ok-Ran.ensures.instruction) c.in-Ok-Ran.ensures.ledger)
+pub returns-then-left-eq0-clause-ran : goal.returns-then-left-eq0-clause-ran
+returns-then-left-eq0-clause-ran g c =
+    let inv = c.loop-core.invariant in
+    along-end _ _ _ _ _ c.args.budget (c.args.budget - 0) 0 (along-ran _ _ _ _ _ c.args.budget _ c.loop-core.left inv.along _ _ _ _ 0
+    (omega (arith, inv.within, inv.some, c.if-left-eq0.true)) (omega (arith, inv.some, c.if-left-eq0.true)) c.in-Ok.ensures.ok
+    (rw (c.in-Ok-Ran.field-0-is, c.in-Ok.ensures.core) at c.in-Ok-Ran.ensures.instruction) c.in-Ok-Ran.ensures.ledger)
+    _ _ _ _ (ran-cut _ _)

@@ -1,4 +1,4 @@
-use Rattle.std.proofs.Common.{◌≤◌}
+use Rattle.std.proofs.Common.{◌-◌, ◌≤◌}
 use Rattle.uxn_opcodes.specs.Rule.{moved}
 use Rattle.vector_loop.specs.Follows.{running, models_of}
 use Rattle.vector_loop.proofs.Vectors.{Along}
@@ -6,8 +6,9 @@ use Rattle.vector_loop.proofs.vector.run_instructions.Given as goal
 
 abbrev pub invariant-loop-core : goal.invariant-loop-core
 invariant-loop-core g l = record {
-  along : Along (models_of g.T.Tree g.O.Sink g.E.Sink g.W.Watcher) (running l.fn.core l.fn.bus l.tally l.fn.watcher) (moved l.core l.at) l.bus l.watcher
-      l.budget l.left;
+  within : l.left ≤ l.budget;
+  along : Along (models_of g.T.Tree g.O.Sink g.E.Sink g.W.Watcher) (running l.fn.core l.fn.bus l.tally l.fn.watcher) (moved l.core l.at) l.bus
+      l.watcher l.budget (l.budget - l.left) l.left;
   some : 1 ≤ l.left;
 }
 

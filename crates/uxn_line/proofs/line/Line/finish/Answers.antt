@@ -18,7 +18,8 @@ returns-in_err-round g c =
 pub returns : goal.returns
 returns g c =
     let done = rounds-finish _ _ _ c.exit_code.new.self _ _ _ c.exit_code.result c.rounds.invariant c.in_ok-round.ensures.went
-    (rw c.if-branch.false at c.in_ok-round.ensures.works) (c.in_ok-round.ensures.still c.if-branch.false) c.exit_code.ensures.stands c.exit_code.ensures.code in
+    (rw c.if-branch.false at c.in_ok-round.ensures.works)
+    (c.in_ok-round.ensures.still c.if-branch.false) c.exit_code.ensures.stands c.exit_code.ensures.code in
     record {
       finishes = done;
       stops = tt;

@@ -9,11 +9,13 @@ returns-in_default c =
     let line = c.args.self.now in
     let none = none-is line.input_queue (sym c.take.ensures.value ∙ c.in_default.is) in
     let never : (job : LineJob) (turned : Turned) → LineRepresents job line turned → ⊥ = λ job turned stands.
-    (idle-at c.requires.0 _ (stands.each 0 c.requires.0 c.requires.1.there).stands c.requires.1.idle c.requires.1.goes_on).some (sym stands.script ∙ none) in
+    (idle-at c.requires.0 _ (stands.each 0 c.requires.0 c.requires.1.there).stands c.requires.1.idle c.requires.1.goes_on).some
+    (sym stands.script ∙ none) in
     record {
       cause = λ job turned stands. absurd (never job turned stands);
       leads = λ job turned stands. absurd (never job turned stands);
-      works = ap (λ (pending_inputs : List PendingInput). record line { input_queue = pending_inputs }) (c.take.ensures.rest ∙ ap (λ (pending_inputs : List PendingInput). drop 1 pending_inputs) none ∙ sym none);
+      works = ap (λ (pending_inputs : List PendingInput). record line { input_queue = pending_inputs })
+          (c.take.ensures.rest ∙ ap (λ (pending_inputs : List PendingInput). drop 1 pending_inputs) none ∙ sym none);
       machines = refl;
     }
 

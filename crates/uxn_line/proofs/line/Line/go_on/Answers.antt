@@ -35,7 +35,8 @@ returns g c =
     record {
       went = reach-then _ _ _ _ _ _ c.turns.invariant.went (turn-went c.args.index _ _ _ _ (Ok c.in_ok-turn_at.field-0) came);
       works = rw same c.turns.invariant.works;
-      still = λ e. still-since c.turns.moved _ c.turns.self c.args.index e c.turns.invariant.works (move-still c.turns.self c.args.index _ is came.came.cause);
+      still = λ e. still-since c.turns.moved _ c.turns.self c.args.index e c.turns.invariant.works
+          (move-still c.turns.self c.args.index _ is came.came.cause);
       machines = came.came.machines ∙ c.turns.invariant.machines;
     }
 

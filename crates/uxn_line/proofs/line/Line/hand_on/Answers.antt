@@ -5,18 +5,21 @@ use Rattle.uxn_line.proofs.line.Line.hand_on.Goals as goal
 
 pub take-requires : goal.take-requires
 take-requires c =
-    let same = next-is c.args.self.now c.args.index c.index.result.now c.index_mut.result.now c.requires.there c.index.ensures c.index_mut.ensures.value in
+    let same = next-is c.args.self.now c.args.index c.index.result.now c.index_mut.result.now c.requires.there c.index.ensures
+    c.index_mut.ensures.value in
     room-left c.index_mut.result.now c.is_full.result (rw same at c.is_full.ensures.full) c.if-is_full.false
 
 pub run-requires : goal.run-requires
 run-requires c =
-    (found-again c.args.byte c.args.self.now c.args.index c.take.new.self c.index_mut-2.result.now c.requires.running c.index_mut-2.ensures.value).vector
+    (found-again c.args.byte c.args.self.now c.args.index c.take.new.self c.index_mut-2.result.now c.requires.running
+    c.index_mut-2.ensures.value).vector
 
 pub returns-then-is_full : goal.returns-then-is_full
 returns-then-is_full c =
     let there = read-behind c.args.self.now.members.items c.args.index c.index.result.now c.requires.there c.index.ensures in
     let goes = full-goes c.index.result.now c.is_full.result c.is_full.ensures.over c.if-is_full.true in
-    held-came c.args.byte c.args.self.now c.args.index c.index.result.now c.requires.running there goes ((c.is_full.ensures.full goes).0 c.if-is_full.true)
+    held-came c.args.byte c.args.self.now c.args.index c.index.result.now c.requires.running there goes
+    ((c.is_full.ensures.full goes).0 c.if-is_full.true)
 
 pub returns : goal.returns
 returns c =

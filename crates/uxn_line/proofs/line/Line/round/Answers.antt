@@ -29,11 +29,6 @@ loop-index-preserved g c =
       machines = c.in_ok-moved.ensures.machines ∙ now.machines;
     }
 
-pub returns : goal.returns
-returns g c =
-    let now = c.loop-index.invariant in
-    record {
-      went = now.went;
-      works = now.works;
-      still = λ e machine within. now.still e machine (omega (arith, within, c.loop-index-test.false, c.len-index-end.ensures, c.args.self.now.members.ok.0));
-    }
+pub returns-clause-still : goal.returns-clause-still
+returns-clause-still g c = λ e machine within.
+    c.loop-index.invariant.still e machine (omega (arith, within, c.loop-index-test.false, c.len-index-end.ensures, c.args.self.now.members.ok.0))

@@ -1,7 +1,8 @@
 use Rattle.uxn_line.proofs.Common.{[], length, refl, sym, ap, ◌∙◌, arith, slice_get_read, sink-as-it-was, machine_place}
 use Rattle.std.specs.Prelude.{option_to_list}
 use Rattle.uxn_line.proofs.Standings.{ended-is}
-use Rattle.uxn_line.proofs.Running.{leads-nowhere}
+use Rattle.uxn_line.specs.declared.line.Moved.TheVariants.{Ended}
+use Rattle.uxn_line.proofs.Running.{still-came}
 use Rattle.uxn_line.proofs.line.Line.turn_at.Goals as goal
 
 pub returns-then-is_over : goal.returns-then-is_over
@@ -12,14 +13,9 @@ returns-then-is_over g c =
     record {
       bytes = [];
       put = sink-as-it-was _;
-      came = record {
-        cause = λ job turned stands.
-            (ended-is member (machine_place job turned c.args.index) (stands.each c.args.index member there).stands).0
-            (sym c.is_over.ensures.value ∙ c.if-is_over.true);
-        leads = leads-nowhere c.args.self.now;
-        works = refl;
-        machines = refl;
-      };
+      came = still-came c.args.self.now c.args.index Ended (λ turned. refl) refl (λ job turned stands.
+          (ended-is member (machine_place job turned c.args.index) (stands.each c.args.index member there).stands).0
+          (sym c.is_over.ensures.value ∙ c.if-is_over.true));
     }
 
 pub give_at-requires : goal.give_at-requires
@@ -32,9 +28,6 @@ give_at-requires g c =
         goes_on = sym c.is_over.ensures.value ∙ c.if-is_over.false;
       },
     )
-
-pub returns-then-member-eq0 : goal.returns-then-member-eq0
-returns-then-member-eq0 g c = record { bytes = []; put = sink-as-it-was _; came = c.give_at.ensures }
 
 pub run_of_machine-requires : goal.run_of_machine-requires
 run_of_machine-requires g c =
@@ -57,6 +50,3 @@ write_at-requires g c =
         writes = sym c.next_byte.ensures ∙ ap option_to_list c.in-Some.is;
       },
     )
-
-pub returns-in-None : goal.returns-in-None
-returns-in-None g c = record { bytes = []; put = sink-as-it-was _; came = c.run_of_machine.ensures }

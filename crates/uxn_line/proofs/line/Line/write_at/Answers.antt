@@ -1,4 +1,4 @@
-use Rattle.uxn_line.proofs.Common.{◌≡◌, ◌∷◌, [], refl, rules, arith, Err, slice_get_within, sink-as-it-was}
+use Rattle.uxn_line.proofs.Common.{◌≡◌, ◌∷◌, [], refl, rules, arith, Err, slice_get_within}
 use Rattle.uxn_line.proofs.Running.{found-running}
 use Rattle.uxn_line.proofs.Putting.{put-came, writes-last}
 use Rattle.uxn_line.proofs.line.Line.write_at.Goals as goal
@@ -41,6 +41,3 @@ hand_on-requires-clause-there g c =
     let line = c.args.self.now in
     let within = slice_get_within line.members.items c.args.index c.requires.0 c.requires.1.there in
     omega (arith, within, c.if-index-len.false, c.len.ensures, line.members.ok.0)
-
-pub returns : goal.returns
-returns g c = record { bytes = []; put = sink-as-it-was _; came = c.hand_on.ensures }

@@ -2,15 +2,15 @@ use Rattle.std.proofs.Common.{ap, refl, lit≤, arith}
 use Rattle.play_script.specs.declared.script.Event.TheVariants.{Input, EndInput, Frame, Device, Shot}
 use Rattle.varvara_bus.specs.State.{DeviceState, screen_refreshed}
 use Rattle.vector_loop.specs.declared.tally.Tally.{Tally}
-use Rattle.vector_loop.specs.State.{State, with_next_frame, with_refreshed, with_counted, counting_event}
-use Rattle.vector_loop.specs.Trace.{stays, followed_by}
-use Rattle.vector_loop.specs.Event.{shown_and_heard, shot}
+use Rattle.vector_loop.specs.State.{State, with_next_frame, with_counted, counting_event}
+use Rattle.vector_loop.specs.Trace.{stays}
+use Rattle.vector_loop.specs.Event.{shown_and_heard, frame, expected, shot, give}
 use Rattle.vector_loop.specs.Outputs.{picture_bytes}
 use Rattle.vector_loop.specs.Answers.{none, of_vectors, of_events}
 use Rattle.vector_loop.proofs.Counting.{grown-counted, grown-compared}
-use Rattle.vector_loop.proofs.Frames.{pictured, shot-is}
-use Rattle.vector_loop.proofs.Events.{one_event, with_compared, frame-given, expect-given, answers-given}
-use Rattle.vector_loop.proofs.Answering.{answers-then, answers-as, answers-within, answers-change, answers-stored, answers-made}
+use Rattle.vector_loop.proofs.Frames.{pictured}
+use Rattle.vector_loop.proofs.Events.{one_event, with_compared, answers-given}
+use Rattle.vector_loop.proofs.Answering.{answers-then, answers-within, answers-change, answers-stored, answers-made}
 use Rattle.vector_loop.proofs.runner.Runner.give_event.Goals as goal
 
 pub returns-in-Input-clause-answers : goal.returns-in-Input-clause-answers
@@ -26,35 +26,36 @@ returns-in-Device-clause-answers g c = rw c.in-Device.is
     (answers-given _ c.args.self.now _ c.args.self.now.budget c.args.outputs.now (Device c.in-Device.input) 1 _ (lit≤ tt) c.give_device.ensures)
 
 pub returns-in-Frame-clause-answers : goal.returns-in-Frame-clause-answers
+unfolding give frame
 returns-in-Frame-clause-answers g c = rw c.in-Frame.is
-    (answers-as _ _ _ (λ s. followed_by (stays (with_next_frame (with_counted Frame s))) (shown_and_heard c.args.self.now.budget c.args.outputs.now)) _ (of_events 1) _
-    (frame-given c.args.self.now.budget c.args.outputs.now)
-    (answers-then _ _ _ _ (λ s. stays (with_next_frame (with_counted Frame s))) (shown_and_heard c.args.self.now.budget c.args.outputs.now) one_event (of_vectors 5) (tt {0}) _
-    (answers-change _ _ _ (λ s. with_next_frame (with_counted Frame s)) one_event (tt {0}) refl refl c.frame_begins.ensures.others (omega (arith, c.frame_begins.ensures.frames))
-    (grown-counted Frame c.args.self.now.tally c.args.self.now.budget) c.frame_begins.ensures.devices.bus (λ devices stands. refl))
-    c.show_and_sound.ensures))
+    (answers-then _ _ _ _ (λ s. stays (with_next_frame (with_counted Frame s))) (shown_and_heard c.args.self.now.budget c.args.outputs.now)
+    one_event (of_vectors 5) (tt {0}) _
+    (answers-change _ _ _ (λ s. with_next_frame (with_counted Frame s)) one_event (tt {0}) refl refl c.frame_begins.ensures.others
+    (omega (arith, c.frame_begins.ensures.frames)) (grown-counted Frame c.args.self.now.tally c.args.self.now.budget)
+    c.frame_begins.ensures.devices.bus (λ devices stands. refl))
+    c.show_and_sound.ensures)
 
 pub returns-in-Expect-clause-answers : goal.returns-in-Expect-clause-answers
+unfolding give expected
 returns-in-Expect-clause-answers g c =
     let now : DeviceState → Tally → State = λ devices tally. record { core = c.args.self.now.core.now; devices = devices; tally = tally } in
     rw c.in-Expect.is
     (answers-within _ _ _ _ one_event (of_events 1) _ (omega arith) (omega arith)
-    (answers-as _ _ _ (λ s. stays (with_compared c.in-Expect.port c.in-Expect.byte s)) _ one_event _
-    (expect-given c.args.self.now.budget c.args.outputs.now c.in-Expect.port c.in-Expect.byte)
     (answers-change _ _ _ (with_compared c.in-Expect.port c.in-Expect.byte) one_event (tt {0}) refl refl
-    (record { borrowed = record { devices = refl; tree = refl; out = refl; err = refl }; tree = refl; out = refl; err = refl; clock = refl; root = refl }) (omega arith)
-    (grown-compared c.args.self.now.tally _ c.args.self.now.budget c.compare.ensures.grown) (λ devices stands. stands)
-    (λ devices stands. ap (now devices) (c.compare.ensures.counted devices stands)))))
+    (record { borrowed = record { devices = refl; tree = refl; out = refl; err = refl }; tree = refl; out = refl; err = refl; clock = refl; root = refl })
+    (omega arith) (grown-compared c.args.self.now.tally _ c.args.self.now.budget c.compare.ensures.grown) (λ devices stands. stands)
+    (λ devices stands. ap (now devices) (c.compare.ensures.counted devices stands))))
 
 pub returns-in-Shot-clause-answers : goal.returns-in-Shot-clause-answers
+unfolding shot picture_bytes
 returns-in-Shot-clause-answers g c = rw c.in-Shot.is
     (answers-given _ c.args.self.now _ c.args.self.now.budget c.args.outputs.now Shot 0 _ (lit≤ tt)
-    (answers-as _ _ _ (λ s. followed_by (stays (with_refreshed s)) (pictured c.args.outputs.now)) (shot c.args.outputs.now) none _ (shot-is c.args.outputs.now)
-    (answers-then _ _ (record c.args.self.now { tally = counting_event Shot c.args.self.now.tally; bus = record c.args.self.now.bus { now = c.refresh.new.self } }) _
-    (λ s. stays (with_refreshed s)) (pictured c.args.outputs.now) none none (tt {0}) _
-    (answers-stored _ _ _ screen_refreshed (tt {0}) refl refl refl c.refresh.ensures.others c.refresh.ensures.frames c.refresh.ensures.devices.bus)
-    (answers-made _ _ _ c.args.outputs.now.frames picture_bytes _
-    (rw (c.refresh.ensures.others.root, c.refresh.ensures.others.tree) c.requires.outputs.frames) refl refl c.keep_picture.ensures))))
+    (answers-stored _ _ (record c.args.self.now {
+      tally = counting_event Shot c.args.self.now.tally;
+      bus = record c.args.self.now.bus { now = c.refresh.new.self };
+    }) _ screen_refreshed (pictured c.args.outputs.now) none _ refl refl refl c.refresh.ensures.others c.refresh.ensures.frames
+    c.refresh.ensures.devices.bus (answers-made _ _ _ c.args.outputs.now.frames picture_bytes _
+    (rw (c.refresh.ensures.others.root, c.refresh.ensures.others.tree) c.requires.outputs.frames) refl refl c.keep_picture.ensures)))
 
 pub returns-in-Shot-clause-shot : goal.returns-in-Shot-clause-shot
 returns-in-Shot-clause-shot g c is = record {

@@ -1,34 +1,50 @@
-use Rattle.std.proofs.Common.{◌≡◌, ℕ, ◌+◌, Ok, Err, false, [], ◌∷◌, drop, slice_index_or, rules, arith}
-use Rattle.vector_loop.specs.State.{State}
-use Rattle.vector_loop.specs.Trace.{Trace}
+use Rattle.std.proofs.Common.{◌≡◌, suc, ◌+◌, ◌-◌, Err, false, slice_index_or, rules, arith}
+use Rattle.std.specs.List.{range_with_len}
 use Rattle.vector_loop.specs.Event.{unless_over, give_each, vector_where}
 use Rattle.vector_loop.specs.Answers.{of_vectors}
-use Rattle.vector_loop.proofs.Giving.{each-next, each-end}
-use Rattle.vector_loop.proofs.Answering.{answers-by, answers-within, going-start, going-on, going-stopped, going-end}
-use Rattle.vector_loop.proofs.Frames.{voice-at}
+use Rattle.vector_loop.proofs.Counting.{room-less}
+use Rattle.vector_loop.proofs.Answering.{answers-nothing, going-on, going-stopped, room-after, same-itself, same-both}
 use Rattle.vector_loop.proofs.runner.Runner.run_all_ended.Goals as goal
 
 pub loop-voice-init : goal.loop-voice-init
-loop-voice-init g c = going-start _ _ _
+loop-voice-init g c = record { going = λ after answer answers. answers; same = same-itself _ _; room = c.requires }
+
+pub run_ended-requires-clause-room : goal.run_ended-requires-clause-room
+run_ended-requires-clause-room g c =
+    room-less _ (of_vectors 1) (of_vectors (4 - c.loop-voice.voice)) _ (omega (arith, c.loop-voice-test.true))
+    (omega arith) c.loop-voice.invariant.room
 
 pub loop-voice-preserved : goal.loop-voice-preserved
+unfolding give_each
 loop-voice-preserved g c =
-    let given : ℕ → State → Trace = λ voice. vector_where c.args.self.now.budget (slice_index_or c.args.ended.now voice false) voice in
-    going-on _ _ _ _ _ _ (unless_over (given c.loop-voice.voice)) (give_each given (drop (c.loop-voice.voice + 1) (0 ∷ 1 ∷ 2 ∷ 3 ∷ []))) (of_vectors c.loop-voice.voice) (of_vectors 1) c.in_ok-run_ended.field-0
-    (rw (voice-at c.loop-voice.voice c.loop-voice-test.true) at (each-next given (0 ∷ 1 ∷ 2 ∷ 3 ∷ []) c.loop-voice.voice 0 c.loop-voice-test.true))
-    c.loop-voice.invariant (answers-by _ _ _ (λ n. unless_over (vector_where n (slice_index_or c.args.ended.now c.loop-voice.voice false) c.loop-voice.voice)) (of_vectors 1) (Ok c.in_ok-run_ended.field-0) c.args.self.now.budget c.loop-voice.invariant.done.same.budget (rw c.from.ensures at c.in_ok-run_ended.ensures))
+    let inv = c.loop-voice.invariant in
+    let voice = c.loop-voice.voice in
+    let left : 4 - voice ≡ suc (4 - (voice + 1)) = omega (arith, c.loop-voice-test.true) in
+    let done = rw c.from.ensures at c.in_ok-run_ended.ensures in
+    record {
+      going = going-on _ _ _ _ _ (λ n. unless_over (vector_where n (slice_index_or c.args.ended.now voice false) voice))
+          (give_each (λ v. vector_where c.args.self.now.budget (slice_index_or c.args.ended.now v false) v)
+          (range_with_len (voice + 1) (4 - (voice + 1))))
+          c.args.self.now.budget (of_vectors 4) _ (of_vectors 1) (of_vectors (4 - (voice + 1))) (omega arith) (omega arith) inv.same.budget
+          (rw left at inv.going) c.in_ok-run_ended.field-0 done;
+      same = same-both _ _ _ _ inv.same done.same;
+      room = room-after _ _ _ _ (of_vectors 1) (of_vectors (4 - (voice + 1))) _ _ (omega (arith, c.loop-voice-test.true)) (omega arith) inv.room done;
+    }
 
 pub returns-in_err-run_ended : goal.returns-in_err-run_ended
+unfolding give_each
 returns-in_err-run_ended g c =
-    let given : ℕ → State → Trace = λ voice. vector_where c.args.self.now.budget (slice_index_or c.args.ended.now voice false) voice in
-    let result : c.from_residual.result ≡ Err c.in_err-run_ended.field-0.0 = search rules in
-    rw result (answers-within _ _ _ _ (of_vectors (c.loop-voice.voice + 1)) (of_vectors 4) _ (omega (arith, c.loop-voice-test.true)) (omega arith)
-    (going-stopped _ _ _ _ _ _ (unless_over (given c.loop-voice.voice)) (give_each given (drop (c.loop-voice.voice + 1) (0 ∷ 1 ∷ 2 ∷ 3 ∷ []))) (of_vectors c.loop-voice.voice) (of_vectors 1) c.in_err-run_ended.field-0.0
-    (rw (voice-at c.loop-voice.voice c.loop-voice-test.true) at (each-next given (0 ∷ 1 ∷ 2 ∷ 3 ∷ []) c.loop-voice.voice 0 c.loop-voice-test.true))
-    c.loop-voice.invariant (answers-by _ _ _ (λ n. unless_over (vector_where n (slice_index_or c.args.ended.now c.loop-voice.voice false) c.loop-voice.voice)) (of_vectors 1) (Err c.in_err-run_ended.field-0.0) c.args.self.now.budget c.loop-voice.invariant.done.same.budget (rw c.from.ensures at c.in_err-run_ended.ensures))))
+    let stop = c.in_err-run_ended.field-0.0 in
+    let voice = c.loop-voice.voice in
+    let left : 4 - voice ≡ suc (4 - (voice + 1)) = omega (arith, c.loop-voice-test.true) in
+    let result : c.from_residual.result ≡ Err stop = search rules in
+    rw result (going-stopped _ _ _ _ _ (λ n. unless_over (vector_where n (slice_index_or c.args.ended.now voice false) voice))
+    (give_each (λ v. vector_where c.args.self.now.budget (slice_index_or c.args.ended.now v false) v) (range_with_len (voice + 1) (4 - (voice + 1))))
+    c.args.self.now.budget (of_vectors 4) _ (of_vectors 1) (of_vectors (4 - (voice + 1))) (omega arith) (omega arith)
+    c.loop-voice.invariant.same.budget (rw left at c.loop-voice.invariant.going) stop (rw c.from.ensures at c.in_err-run_ended.ensures))
 
 pub returns : goal.returns
+unfolding give_each
 returns g c =
-    let given : ℕ → State → Trace = λ voice. vector_where c.args.self.now.budget (slice_index_or c.args.ended.now voice false) voice in
-    answers-within _ _ _ _ (of_vectors c.loop-voice.voice) (of_vectors 4) _ (omega (arith, c.loop-voice.auto.voice-end)) (omega arith)
-    (going-end _ _ _ _ _ (of_vectors c.loop-voice.voice) (tt {0}) (each-end given (0 ∷ 1 ∷ 2 ∷ 3 ∷ []) c.loop-voice.voice (omega (arith, c.loop-voice-test.false))) c.loop-voice.invariant)
+    let none : 4 - c.loop-voice.voice ≡ 0 = omega (arith, c.loop-voice-test.false) in
+    rw none at c.loop-voice.invariant.going _ _ (answers-nothing _ _ (tt {0}))

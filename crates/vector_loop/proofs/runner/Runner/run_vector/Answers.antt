@@ -9,7 +9,7 @@ use Rattle.vector_loop.proofs.runner.Runner.run_vector.Goals as goal
 
 pub returns-clause-answers : goal.returns-clause-answers
 returns-clause-answers g c =
-    let ran = c.run_instructions-ran.ensures in
+    let ran = c.run_instructions-ran.ensures.ran in
     answers-ran _ _ _ (vector c.args.self.now.budget c.args.at) (of_vectors 1) _ refl refl refl refl
     (vector-reaches _ _ _ c.from-budget.result c.args.self.now.budget c.args.at _ c.from-budget.ensures (rw c.count_run.ensures ran.reaches))
     ran.ledger
@@ -19,4 +19,4 @@ returns-clause-answers g c =
 
 pub returns-clause-end : goal.returns-clause-end
 unfolding vector_end
-returns-clause-end g c = (rw c.from-budget.ensures at c.run_instructions-ran.ensures).ends
+returns-clause-end g c = (rw c.from-budget.ensures at c.run_instructions-ran.ensures.ran).ends
