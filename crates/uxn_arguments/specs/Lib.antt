@@ -1,5 +1,5 @@
-pub mod Roles
-pub mod Tasks
+pub mod Values
+pub mod Options
 pub mod Words
 pub mod ReadsArguments
 pub mod Places

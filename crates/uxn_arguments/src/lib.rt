@@ -1,10 +1,9 @@
 //! The words of the command line: what they ask for, and which of the files that they name clash.
 #![tactic(auto)]
 
-mod role;
+mod options;
 mod task;
 mod words;
 
-pub use role::Role;
-pub use task::Task;
+pub use task::{AssembleTask, DebugTask, DisassembleTask, RunTask, Task, run_outputs};
 pub use words::{Command, WordFault, WordStop, read_words};

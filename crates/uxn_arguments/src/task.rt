@@ -2,128 +2,112 @@
 ghost use Rattle.std.specs.Prelude.{◌≡◌, ◌++◌, IfOk, OnOk, find, option_copied, option_to_list};
 ghost use Rattle.std.specs.List.{list_any};
 ghost use Rattle.std.specs.Str.{bytes_eq};
-ghost use Rattle.uxn_arguments.specs.Roles.{files_of};
-ghost use Rattle.uxn_arguments.specs.Tasks.{role_path, task_with_path, no_paths};
-ghost use Rattle.uxn_arguments.specs.Places.{own_input, path_where, paths_used, command_inputs, outputs_of, command_root, places_of, meets, clashes, first_clash};
+ghost use Rattle.uxn_arguments.specs.Options.{debug_inputs, inputs_of, log_of, outputs_of, root_of, run_outputs};
+ghost use Rattle.uxn_arguments.specs.Places.{places_of, meets, clashes, first_clash};
 
-use super::role::{Access, FileOption, ROLE_COUNT, Role};
-use super::words::Command;
 use std::alloc::{AllocError, Global};
 use uxn_io_traits::Path;
 
-/// What is to be done.
+/// A program that is run over a script, as `play` and `debug` do.
 #[derive(Clone, Copy)]
-pub struct Task {
-    /// The command.
-    pub command: Command,
-    /// The command's own item: the file that it is about, or of `gen` the digits of its count.
+pub struct RunTask {
+    /// The source, or the ROM.
     pub file: Path,
-    /// How many routines a workload has, 1 to 8,000; 0 of other commands.
-    pub count: u16,
     /// Whether the file is a ROM.
     pub rom: bool,
     /// The greatest number of instructions of a vector.
     pub budget: u32,
-    /// The path of each role, in the order of the roles.
-    paths: [Option<Path>; ROLE_COUNT],
+    /// The script.
+    pub script: Option<Path>,
+    /// The folder of the program's own files.
+    pub root: Option<Path>,
+    /// The file for the pictures.
+    pub frames: Option<Path>,
+    /// The file for the samples.
+    pub samples: Option<Path>,
+    /// The file for the report.
+    pub report: Option<Path>,
+}
+
+/// A debugger that watches a run.
+#[derive(Clone, Copy)]
+pub struct DebugTask {
+    /// Its commands.
+    pub commands: Path,
+    /// The file for its log.
+    pub log: Path,
+    /// The symbols that its log names.
+    pub symbols: Option<Path>,
+}
+
+/// A source that is assembled.
+#[derive(Clone, Copy)]
+pub struct AssembleTask {
+    /// The source.
+    pub file: Path,
+    /// The file for the ROM.
+    pub out: Path,
+    /// The file for the symbols.
+    pub symbols: Option<Path>,
+    /// The file for the listing.
+    pub listing: Option<Path>,
+}
+
+/// A ROM that is disassembled.
+#[derive(Clone, Copy)]
+pub struct DisassembleTask {
+    /// The ROM.
+    pub file: Path,
+    /// The symbols that it is read with.
+    pub symbols: Option<Path>,
+}
+
+/// What is to be done.
+#[derive(Clone, Copy)]
+pub enum Task {
+    /// A program is run, which a debugger may watch.
+    Run(RunTask, Option<DebugTask>),
+    /// A source is assembled.
+    Assemble(AssembleTask),
+    /// A ROM is disassembled.
+    Disassemble(DisassembleTask),
+    /// A workload of so many routines, 1 to 8,000, is made and run.
+    Generate(u16),
+    /// The machines of the setup in this file are run in a line.
+    Line(Path),
 }
 
 impl Task {
-    /// A task in which no role has a path yet.
-    pub(crate) fn new(command: Command, file: Path, count: u16, rom: bool, budget: u32) -> Task
-        ensures { result ≡ no_paths command file count rom budget }
-    {
-        Task {
-            command,
-            file,
-            count,
-            rom,
-            budget,
-            paths: [None; ROLE_COUNT],
-        }
-    }
-
-    /// The path of a role, where the words name one.
-    pub fn path(&self, role: Role) -> Option<Path>
-        ensures { result ≡ role_path self.now role }
-    {
-        match self.paths.get(role.number()) {
-            Some(path) => *path,
-            None => None,
-        }
-    }
-
-    /// Gives a role its path.
-    pub(crate) fn set(&mut self, role: Role, path: Option<Path>)
-        ensures path { self.new ≡ task_with_path self.old role path }
-        ensures budget { self.new.budget ≡ self.old.budget }
-    {
-        self.paths[role.number()] = path;
-    }
-
-    /// The path of a file, where the command does this with it.
-    fn path_where(&self, access: Access, file: &FileOption) -> Option<Path>
-        ensures { result ≡ path_where access self.now file.now }
-    {
-        if file.access.is(access) {
-            self.path(file.role)
-        } else {
-            None
-        }
-    }
-
-    /// Puts the files with which the command does this behind others, in the order of its usage line.
-    fn push_used(&self, access: Access, paths: &mut Vec<Path>) -> Result<(), AllocError>
-        ensures { OnOk result (paths.new.items ≡ paths.old.items ++ paths_used access self.now (files_of self.now.command)) }
-    {
-        let files = self.command.files();
-        for file in files {
-            push_some(paths, self.path_where(access, file))?;
-        }
-        Ok(())
-    }
-
-    /// The files that it writes, in the order of its usage line. Errors when out of memory.
-    pub fn outputs(&self, alloc: Global) -> Result<Vec<Path>, AllocError>
-        ensures { IfOk result (λ paths. paths.items ≡ outputs_of self.now) }
-    {
-        let mut paths = Vec::new(alloc);
-        self.push_used(Access::Write, &mut paths)?;
-        Ok(paths)
-    }
-
-    /// The command's own file, where it reads it.
-    fn own_input(&self) -> Option<Path>
-        ensures { option_to_list result ≡ own_input self.now.command self.now }
-    {
-        match self.command {
-            Command::Generate => None,
-            Command::Play
-            | Command::Debug
-            | Command::Assemble
-            | Command::Disassemble
-            | Command::Line => Some(self.file),
-        }
-    }
-
     /// The files that it reads. Errors when out of memory.
     fn inputs(&self, alloc: Global) -> Result<Vec<Path>, AllocError>
-        ensures { IfOk result (λ paths. paths.items ≡ command_inputs self.now.command self.now) }
+        ensures { IfOk result (λ paths. paths.items ≡ inputs_of self.now) }
     {
         let mut paths = Vec::new(alloc);
-        push_some(&mut paths, self.own_input())?;
-        self.push_used(Access::Read, &mut paths)?;
+        match self {
+            Task::Run(run, debug) => {
+                paths.push(run.file)?;
+                push_debug_inputs(&mut paths, debug)?;
+                push_some(&mut paths, &run.script)?;
+            }
+            Task::Assemble(task) => paths.push(task.file)?,
+            Task::Disassemble(task) => {
+                paths.push(task.file)?;
+                push_some(&mut paths, &task.symbols)?;
+            }
+            Task::Generate(_) => {}
+            Task::Line(file) => paths.push(*file)?,
+        }
         Ok(paths)
     }
 
-    /// The folder of the program's own files, in a run.
-    fn run_root(&self) -> Option<Path>
-        ensures { result ≡ command_root self.now.command self.now }
+    /// The files that it writes, in order. Errors when out of memory.
+    fn outputs(&self, alloc: Global) -> Result<Vec<Path>, AllocError>
+        ensures { IfOk result (λ paths. paths.items ≡ outputs_of self.now) }
     {
-        if self.command.has_root() {
-            self.path(Role::Root)
-        } else {
-            None
+        match self {
+            Task::Run(run, debug) => run_outputs(alloc, run, debug),
+            Task::Assemble(task) => assemble_outputs(alloc, task),
+            Task::Disassemble(_) | Task::Generate(_) | Task::Line(_) => Ok(Vec::new(alloc)),
         }
     }
 
@@ -133,7 +117,9 @@ impl Task {
         ensures { IfOk result (λ paths. paths.items ≡ places_of self.now) }
     {
         let mut paths = Vec::new(alloc);
-        push_some(&mut paths, self.run_root())?;
+        if let Task::Run(run, _) = self {
+            push_some(&mut paths, &run.root)?;
+        }
         paths.extend_from_slice(outputs)?;
         Ok(paths)
     }
@@ -150,13 +136,61 @@ impl Task {
 }
 
 /// Puts a path behind others, where there is one.
-fn push_some(paths: &mut Vec<Path>, path: Option<Path>) -> Result<(), AllocError>
-    ensures { OnOk result (paths.new.items ≡ paths.old.items ++ option_to_list path) }
+fn push_some(paths: &mut Vec<Path>, path: &Option<Path>) -> Result<(), AllocError>
+    ensures { OnOk result (paths.new.items ≡ paths.old.items ++ option_to_list path.now) }
 {
     if let Some(path) = path {
-        paths.push(path)?;
+        paths.push(*path)?;
     }
     Ok(())
+}
+
+/// Puts the files that a debugger reads behind others.
+fn push_debug_inputs(paths: &mut Vec<Path>, debug: &Option<DebugTask>) -> Result<(), AllocError>
+    ensures { OnOk result (paths.new.items ≡ paths.old.items ++ debug_inputs debug.now) }
+{
+    if let Some(debug) = debug {
+        paths.push(debug.commands)?;
+        push_some(paths, &debug.symbols)?;
+    }
+    Ok(())
+}
+
+/// Puts the log of a debugger behind others.
+fn push_log(paths: &mut Vec<Path>, debug: &Option<DebugTask>) -> Result<(), AllocError>
+    ensures { OnOk result (paths.new.items ≡ paths.old.items ++ option_to_list (log_of debug.now)) }
+{
+    if let Some(debug) = debug {
+        paths.push(debug.log)?;
+    }
+    Ok(())
+}
+
+/// The files that a run writes, in order. Errors when out of memory.
+pub fn run_outputs(
+    alloc: Global,
+    run: &RunTask,
+    debug: &Option<DebugTask>,
+) -> Result<Vec<Path>, AllocError>
+    ensures { IfOk result (λ paths. paths.items ≡ run_outputs run.now debug.now) }
+{
+    let mut paths = Vec::new(alloc);
+    push_log(&mut paths, debug)?;
+    push_some(&mut paths, &run.frames)?;
+    push_some(&mut paths, &run.samples)?;
+    push_some(&mut paths, &run.report)?;
+    Ok(paths)
+}
+
+/// The files that are written out of a source, in order. Errors when out of memory.
+fn assemble_outputs(alloc: Global, task: &AssembleTask) -> Result<Vec<Path>, AllocError>
+    ensures { IfOk result (λ paths. paths.items ≡ outputs_of (Task.Assemble task.now)) }
+{
+    let mut paths = Vec::new(alloc);
+    paths.push(task.out)?;
+    push_some(&mut paths, &task.symbols)?;
+    push_some(&mut paths, &task.listing)?;
+    Ok(paths)
 }
 
 /// Whether two paths are the same.

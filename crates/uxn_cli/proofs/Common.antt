@@ -50,20 +50,20 @@ pub use Rattle.vector_loop.specs.Trace.{Trace}
 pub use Rattle.vector_loop.specs.declared.output.Outputs.{Outputs}
 pub use Rattle.uxn_undo.specs.Row.{IsMachine}
 pub use Rattle.uxn_undo.specs.Runs.{RunLaw, given_at}
-pub use Rattle.uxn_arguments.specs.Places.{first_clash, HasApartOutputs, command_outputs, outputs_of, command_root, paths_used, command_inputs, meets, clashes}
-pub use Rattle.uxn_arguments.specs.Roles.{run_files}
-pub use Rattle.uxn_arguments.specs.Tasks.{role_path}
+pub use Rattle.uxn_arguments.specs.Options.{inputs_of, outputs_of, root_of, run_outputs, log_of}
+pub use Rattle.uxn_arguments.specs.Values.{then_steps}
+pub use Rattle.uxn_arguments.specs.Places.{first_clash, HasApartOutputs, meets, clashes}
+pub use Rattle.uxn_arguments.specs.declared.task.DebugTask.{DebugTask}
+pub use Rattle.uxn_arguments.specs.declared.task.RunTask.{RunTask}
 pub use Rattle.uxn_arguments.specs.declared.task.Task.{Task}
-pub use Rattle.uxn_arguments.specs.declared.words.Command.{Command}
-pub use Rattle.uxn_arguments.specs.declared.words.Command.TheVariants.{Play, Debug, Assemble, Disassemble, Generate, Line}
 pub use Rattle.uxn_task_files.proofs.PlaceLemmas.{clash_parts, none_last, none_each, count-parts, clash_from, one_if, none_among, count-first}
 pub use Rattle.uxn_task_files.proofs.PlaceLemmas.{meets_parts, meets_one}
 pub use Rattle.uxn_task_files.specs.Blame.{stop_blame, status_blame, as_step, halted_by_tree, result_blame, OnRefused}
-pub use Rattle.uxn_task_files.specs.Held.{model_of_program, model_of_machines, model_of_inputs}
+pub use Rattle.uxn_task_files.specs.Held.{model_of_files, model_of_program, model_of_machines, model_of_inputs}
 pub use Rattle.uxn_task_files.specs.Lines.{refusal_line, refusal_text}
 pub use Rattle.uxn_task_files.specs.Made.{MakesOutputs, WritesOutputs, Made, HalfDone, AreFree}
 pub use Rattle.uxn_task_files.specs.Puts.{Puts}
-pub use Rattle.uxn_task_files.specs.Request.{apart, validated_clash, then_requests, refused}
+pub use Rattle.uxn_task_files.specs.Request.{apart, validated_clash, refused}
 unfoldable pub use Rattle.uxn_task_files.specs.Request.{request}
 pub use Rattle.uxn_task_files.specs.Statuses.{Reason, Status, Exits, Refuses, EndsBy, number, early_status, IsRefusedFor, IsEarly, status_of, Illegal}
 pub use Rattle.uxn_task_files.specs.Statuses.{Pathless, NoInput, FaultySource, FaultyScript, FaultyCommands, Unfit, FaultySetup, reason_of, IsRefusing}
@@ -74,27 +74,28 @@ unfoldable pub use Rattle.uxn_task_files.specs.Writing.{writing}
 pub use Rattle.uxn_task_files.specs.declared.refusal.Halt.{Halt}
 pub use Rattle.uxn_task_files.specs.declared.refusal.Halt.TheVariants.{Refused, Stopped}
 pub use Rattle.uxn_task_files.specs.declared.refusal.Refusal.{Refusal}
-pub use Rattle.uxn_cli.specs.Answer.{HasUnknownContents, HasOutcome, HasCut, MayStop, AnswersCall, Performs, CallHasEnded, EndsEarly, HasPrefix, CallIsCut}
+pub use Rattle.uxn_cli.specs.Answer.{HasUnknownContents, HasOutcome, HasDone, HasDoneWork, HasDoneNothing, MayStop, AnswersCall, Performs, HasPrefix}
 pub use Rattle.uxn_cli.specs.Answer.{ListsFolder}
 pub use Rattle.uxn_cli.specs.Call.{Call, call_request, step_status}
-pub use Rattle.uxn_cli.specs.Causes.{tree_verdict, EndsWith, IsExactly, PutsLine, IsAside, KeepsOthers}
-pub use Rattle.uxn_cli.specs.Clauses.{HasStatuses, EndsEarlyByFaults, ComesOut, IsOutputOf, HoldsFilePrefix, IsPrefixOf, HoldsTruncated, IsCutShort}
-pub use Rattle.uxn_cli.specs.Clauses.{LeavesTheRest, GivesTheSame}
+pub use Rattle.uxn_cli.specs.Causes.{tree_verdict, EndsWith, IsExactly, IsAside, KeepsOthers}
+pub use Rattle.uxn_cli.specs.Clauses.{HasStatuses, ComesOut, LeavesTheRest, GivesTheSame}
+pub use Rattle.uxn_cli.specs.Refused.{OnlyPutsLine}
+pub use Rattle.uxn_cli.specs.Truncated.{IsComplete, IsUnchangedWithoutMemory, IsCutShort, IsOutputOf, HoldsFilePrefix, IsPrefixOf, HoldsPrefixes, LeavesPrefixes}
 pub use Rattle.uxn_cli.specs.Console.{console_script}
-pub use Rattle.uxn_line.specs.Streams.{is_of_console}
-pub use Rattle.uxn_cli.specs.RunJob.{trace_of, RunJob, job_outputs, first_state, log_texts, RootView, Debugging, log_paths, first_devices, root_view_in, state_shown, no_root_view}
-pub use Rattle.uxn_cli.specs.RunJob.{report_of, bus_clock, common_lines, further_lines, state_exit}
+pub use Rattle.uxn_line.specs.Streams.{is_of_console, clock_by, exit_code_at}
+pub use Rattle.uxn_cli.specs.RunJob.{trace_of, RunJob, job_outputs, first_state, log_texts, RootView, Debugging, debugging, first_devices, root_view_in, state_shown, no_root_view}
+pub use Rattle.uxn_cli.specs.RunJob.{report_of, common_lines, further_lines}
 unfoldable pub use Rattle.uxn_cli.specs.RunJob.{reference_trace, log_text, report_text}
 pub use Rattle.uxn_cli.specs.Joined.{LineGoesOn, job_of_joined, LineHasDone, joined_plan}
-pub use Rattle.uxn_cli.specs.Outcome.{line_exit, Outcome, outcome_of, reporting, line_bytes, printing}
+pub use Rattle.uxn_cli.specs.Outcome.{line_exit, Outcome, outcome_of, ShowsOutcome, reporting, line_bytes, printing}
 unfoldable pub use Rattle.uxn_cli.specs.Outcome.{running}
 pub use Rattle.uxn_cli.specs.Outside.{DoesWork, HostState, host_state, observed_outside}
-pub use Rattle.uxn_cli.specs.Prepared.{IsPlanned, AreNew, IsReadyRun, prepared_debugging, prepared_plan, model_of_work}
+pub use Rattle.uxn_cli.specs.Prepared.{IsPlanned, AreNew, IsReadyRun, prepared_debugging, prepared_job, prepared_plan}
 pub use Rattle.uxn_cli.specs.Refused.{HasNoRoot, AtMostOne, IsTold, CountsRefusals, PassesNoneOver}
 pub use Rattle.uxn_cli.specs.Room.{TreeSuffices, SinksSuffice}
 pub use Rattle.uxn_cli.specs.Verdict.{Work, Run, Write, Print, RunLine, accepted_summary, Plan, plan_of, accepted_line, inquiry_of}
 unfoldable pub use Rattle.uxn_cli.specs.Verdict.{run_plan_of, line_plan_of, work_of}
-pub use Rattle.uxn_cli.specs.Verdict.{run_plan, write_plan, text_plan, run_job, debugging, planned, line_plan}
+pub use Rattle.uxn_cli.specs.Verdict.{run_plan, write_plan, text_plan, run_job, planned, line_plan}
 pub use Rattle.uxn_inquiry.specs.Inquiry.{Inquiry, Answer, and_then, answer_in}
 pub use Rattle.uxn_inquiry.specs.Inquires.{Inquires, Says}
 pub use Rattle.uxn_task_files.proofs.GivesLemmas.{IsOfInputs, AsksFor, IsAsked, asks-then, asked-then, run-asked, disassembly-asked, machines-asked, files-asked}

@@ -1,19 +1,21 @@
 -- What a call sees of a tree, and what it leaves alone.
 use Rattle.uxn_cli.proofs.Common.{◌≡◌, ℕ, true, false, List, [], ◌∷◌, ◌++◌, refl, ap, sym, ◌∙◌, subst, inl, inr, Option, Some, option_map, Result, Ok, Err}
 use Rattle.uxn_cli.proofs.Common.{◌||◌, list_any, bytes_eq, bytes_eq-Decides, below, Nodes, files-contents, Change, Creates, World, changed_files}
-use Rattle.uxn_cli.proofs.Common.{files_by, contents_at, Task, Refusal, HasOutcome, AnswersCall, inquiry_of, Work, Run, Write, Print, RunLine}
+use Rattle.uxn_cli.proofs.Common.{files_by, contents_at, Task, Refusal, HasOutcome, inquiry_of, Work, Run, Write, Print, RunLine}
 use Rattle.uxn_cli.proofs.Common.{outcome_of, Outcome, running, reporting, creating_all, filling_all, writing, tree_verdict, RunJob, RootView, root_view_in, job_outputs}
-use Rattle.uxn_cli.proofs.Common.{log_texts, state_exit, reference_trace, Trace, new_core, get_put, File, Call, call_request, ComesOut, GivesTheSame}
-use Rattle.uxn_cli.proofs.Common.{Command, Play, Debug, Assemble, Disassemble, Generate, Line, plan_of, answer_in}
+use Rattle.uxn_cli.proofs.Common.{log_texts, exit_code_at, reference_trace, Trace, new_core, get_put, File, Call, call_request, ComesOut, GivesTheSame}
+use Rattle.uxn_cli.proofs.Common.{None, DebugTask, RunTask, if◌then◌else◌, plan_of, answer_in}
+use Rattle.uxn_arguments.specs.declared.task.Task.TheVariants as tasks
 unfoldable use Rattle.uxn_cli.proofs.Common.{run_plan_of, work_of, run_of, files_of}
 use Rattle.uxn_inquiry.specs.Along.{AgreeAlong}
 use Rattle.uxn_inquiry.specs.InquiryLaws.{same-answer, answer-refused}
+use Rattle.uxn_task_files.specs.Accepted.{first_source}
 unfoldable use Rattle.uxn_task_files.specs.Accepted.{source_of, program_of}
-use Rattle.uxn_cli.specs.Isolation.{LookSame, OfRun, IsOfSource, files_after, IsWritten, IsOutcomeOn, GivesAsOn}
+use Rattle.uxn_cli.specs.Isolation.{LookSame, OfRun, files_after, IsWritten, IsOutcomeOn, GivesAsOn}
 use Rattle.uxn_cli.specs.RunJob.{wanted_outputs}
 use Rattle.std.specs.FinMap as fin
 use Rattle.uxn_cli.proofs.AfterLemmas.{same-node, same-part}
-use Rattle.uxn_cli.proofs.ClauseLemmas.{ends_known}
+use Rattle.uxn_cli.proofs.ClauseLemmas.{Answered, ends_known}
 use Rattle.uxn_cli.proofs.GivesLemmas.{work_paths, verdict-writes}
 use Rattle.uxn_cli.proofs.GuaranteedLemmas.{where_known}
 use Rattle.uxn_cli.proofs.ObservationLemmas.{call-shows}
@@ -40,17 +42,17 @@ work-outputs path files m n (Print text) among = absurd cc
 work-outputs path files m n (RunLine job) among = absurd cc
 
 -- an outcome depends on a tree by the view of the root alone
-outcome-same : (nodes other : Nodes) (found : Result Work Refusal) → OfRun (λ job. root_view_in (Some nodes) job.root ≡ root_view_in (Some other) job.root) found
+outcome-same : (nodes other : Nodes) (found : Result Work Refusal) → OfRun (λ job. root_view_in (Some nodes) job.task.root ≡ root_view_in (Some other) job.task.root) found
     → outcome_of (Some nodes) found ≡ outcome_of (Some other) found
 unfolding running
 outcome-same nodes other (Err refusal) same = refl
 outcome-same nodes other (Ok (Run job)) same =
-    ap (λ root_view. outcome_by job (reference_trace job.budget (wanted_outputs job.frames job.samples) job.script root_view (new_core job.rom))) same
+    ap (λ root_view. outcome_by job (reference_trace job.task.budget (wanted_outputs job.task.frames job.task.samples) job.script root_view (new_core job.rom))) same
   where
     outcome_by : RunJob → Trace → Outcome
     outcome_by job trace = record {
-      status = state_exit trace.last;
-      changes = creating_all (job_outputs job) ++ (reporting job.report job.script.version trace ++ filling_all (log_texts job.debug trace));
+      status = exit_code_at trace.last;
+      changes = creating_all (job_outputs job) ++ (reporting job.task.report job.script.version trace ++ filling_all (log_texts job.debug trace));
     }
 outcome-same nodes other (Ok (Write texts)) same = refl
 outcome-same nodes other (Ok (Print text)) same = refl
@@ -72,19 +74,17 @@ module _ (nodes other : Nodes) (requested : Result Task Refusal) (same : LookSam
 
     outcome-on : IsOutcomeOn requested other before now answer
     outcome-on = record {
-      status = has.status;
-      out = ap (λ w. w.out) has.world;
-      err = ap (λ w. w.err) has.world;
-      part = same-parts (tree_verdict other requested) (subst (OfRun (λ job. root_view_in (Some nodes) job.root ≡ root_view_in (Some other) job.root)) same-verdict same.root);
+      shows = record { status = has.status; out = ap (λ w. w.out) has.world; err = ap (λ w. w.err) has.world };
+      part = same-parts (tree_verdict other requested) (subst (OfRun (λ job. root_view_in (Some nodes) job.task.root ≡ root_view_in (Some other) job.task.root)) same-verdict same.root);
       outputs = λ work accepted path among. ap (contents_at path) here-changes ∙ ap Some (same-outputs requested work accepted path among);
     }
       where
-        same-parts : (found : Result Work Refusal) → OfRun (λ job. root_view_in (Some nodes) job.root ≡ root_view_in (Some other) job.root) found
-            → OfRun (λ job. option_map (below job.root) now.files ≡ Some (below job.root (files_after requested other))) found
+        same-parts : (found : Result Work Refusal) → OfRun (λ job. root_view_in (Some nodes) job.task.root ≡ root_view_in (Some other) job.task.root) found
+            → OfRun (λ job. option_map (below job.task.root) now.files ≡ Some (below job.task.root (files_after requested other))) found
         same-parts (Err refusal) root = tt
         same-parts (Ok (Run job)) root =
-            ap (option_map (below job.root)) here-changes
-            ∙ ap Some (same-part job.root nodes other (outcome_of (Some other) (tree_verdict other requested)).changes (ap (λ (view : RootView). view.part) root))
+            ap (option_map (below job.task.root)) here-changes
+            ∙ ap Some (same-part job.task.root nodes other (outcome_of (Some other) (tree_verdict other requested)).changes (ap (λ (view : RootView). view.part) root))
         same-parts (Ok (Write texts)) root = tt
         same-parts (Ok (Print text)) root = tt
         same-parts (Ok (RunLine job)) root = tt
@@ -99,7 +99,7 @@ module _ (nodes other : Nodes) (requested : Result Task Refusal) (same : LookSam
             ∙ ap (λ v. fin.get (files_by other (outcome_of (Some other) v).changes) path) (sym e)
 
 -- so another tree that looks the same gives the same
-gives-as-on : (requested : Result Task Refusal) (before now : World) (answer : ℕ) (nodes : Nodes) → before.files ≡ Some nodes → AnswersCall requested before now answer
+gives-as-on : (requested : Result Task Refusal) (before now : World) (answer : ℕ) (nodes : Nodes) → before.files ≡ Some nodes → Answered requested before now answer
     → (other : Nodes) → LookSame requested nodes other → GivesAsOn requested nodes other before now answer
 gives-as-on requested before now answer nodes contents answers other same = record {
   verdict = same-verdict nodes other requested same;
@@ -112,32 +112,36 @@ gives-as-on requested before now answer nodes contents answers other same = reco
 
 -- what other calls give the same
 pub gives_the_same : (c : Call) → ComesOut c → GivesTheSame c
-gives_the_same c comes = record {
-  watched = where_known c.before.world.files _ (λ nodes contents. call-shows c.words c.before.world c.now.world c.status nodes contents comes.outcome);
-  isolated = where_known c.before.world.files _ (λ nodes contents. gives-as-on (call_request c) c.before.world c.now.world c.status nodes contents comes.outcome);
-}
+gives_the_same c comes =
+    where_known c.before.world.files _ (λ nodes contents. gives-as-on (call_request c) c.before.world c.now.world c.status nodes contents comes.outcome)
 
 -- ---- a refused source
 
-module _ (task : Task) (other : Nodes) (refusal : Refusal) (refused : answer_in other (source_of task.file) ≡ Err refusal) where
-  run-alone : (c : Command) → task.rom ≡ false → answer_in other (run_plan_of c task) ≡ Err refusal
+module _ (path : List ℕ) (other : Nodes) (refusal : Refusal) (refused : answer_in other (source_of path) ≡ Err refusal) where
+  run-alone : (run : RunTask) (debug : Option DebugTask) → run.rom ≡ false → run.file ≡ path → answer_in other (plan_of (tasks.Run run debug)) ≡ Err refusal
   unfolding run_plan_of run_of program_of
-  run-alone c source =
-      answer-refused other (run_of c task) _ refusal
-      (answer-refused other (program_of task.rom task.file) _ refusal (rw source (answer-refused other (source_of task.file) _ refusal refused)))
+  run-alone run debug source same =
+      let file : answer_in other (source_of run.file) ≡ Err refusal = ap (λ file. answer_in other (source_of file)) same ∙ refused in
+      answer-refused other (run_of run debug) _ refusal
+      (answer-refused other (program_of run.rom run.file) _ refusal (rw source (answer-refused other (source_of run.file) _ refusal file)))
 
-  plan-alone : (c : Command) → IsOfSource c task.rom → answer_in other (plan_of c task) ≡ Err refusal
+  plan-alone : (task : Task) → first_source task ≡ Some path → answer_in other (plan_of task) ≡ Err refusal
   unfolding files_of
-  plan-alone Play source = run-alone Play source
-  plan-alone Debug source = run-alone Debug source
-  plan-alone Assemble source = answer-refused other (files_of task) _ refusal (answer-refused other (source_of task.file) _ refusal refused)
-  plan-alone Disassemble source = absurd source
-  plan-alone Generate source = absurd source
-  plan-alone Line source = absurd source
+  plan-alone (tasks.Run run debug) first =
+      elim run.rom as (λ b. run.rom ≡ b → (if b then None else Some run.file) ≡ Some path → answer_in other (plan_of (tasks.Run run debug)) ≡ Err refusal) [
+        | true ↦ λ rom first. absurd cc
+        | false ↦ λ rom first. (let same : run.file ≡ path = cc in run-alone run debug rom same)
+      ] refl first
+  plan-alone (tasks.Assemble task) first =
+      let same : task.file ≡ path = cc in
+      answer-refused other (files_of task) _ refusal (answer-refused other (source_of task.file) _ refusal (ap (λ file. answer_in other (source_of file)) same ∙ refused))
+  plan-alone (tasks.Disassemble task) first = absurd cc
+  plan-alone (tasks.Generate count) first = absurd cc
+  plan-alone (tasks.Line file) first = absurd cc
 
-pub alone : (task : Task) (nodes other : Nodes) (refusal : Refusal) → IsOfSource task.command task.rom → answer_in nodes (source_of task.file) ≡ Err refusal
-    → AgreeAlong nodes other (source_of task.file) → tree_verdict other (Ok task) ≡ Err refusal
+pub alone : (task : Task) (path : List ℕ) (nodes other : Nodes) (refusal : Refusal) → first_source task ≡ Some path → answer_in nodes (source_of path) ≡ Err refusal
+    → AgreeAlong nodes other (source_of path) → tree_verdict other (Ok task) ≡ Err refusal
 unfolding work_of
-alone task nodes other refusal source is agree =
-    answer-refused other (plan_of task.command task) _ refusal
-    (plan-alone task other refusal (sym (same-answer nodes other (source_of task.file) agree) ∙ is) task.command source)
+alone task path nodes other refusal first is agree =
+    answer-refused other (plan_of task) _ refusal
+    (plan-alone path other refusal (sym (same-answer nodes other (source_of path) agree) ∙ is) task first)

@@ -1,6 +1,5 @@
 pub mod Common
 pub mod ChangeLemmas
-pub mod JobLemmas
 pub mod GivesLemmas
 pub mod PlanLemmas
 pub mod VerdictLemmas

@@ -5,14 +5,14 @@ use Rattle.uxn_cli.proofs.Common.{changed_by-append, files_by-append, files-cont
 use Rattle.uxn_cli.proofs.Common.{file_bytes_at, get_put, Change, ToOut, ToErr, Creates, ToFile, Removes, World, changed_files, files_by, changed}
 use Rattle.uxn_cli.proofs.Common.{changed_by, extended, new_core, IsOutside, Each, each-append, each-prefix, each-map, inserted-other, removed-other}
 use Rattle.uxn_cli.proofs.Common.{contents_at, first_clash, HasApartOutputs, Task, Refusal, Call, call_request, tree_verdict, IsOutputOf, HoldsFilePrefix}
-use Rattle.uxn_cli.proofs.Common.{IsPrefixOf, HoldsTruncated, IsCutShort, RunJob, job_outputs, first_state, reference_trace, trace_of, log_texts, report_of, outcome_of}
-use Rattle.uxn_cli.proofs.Common.{reporting, running, creating_all, filling, filling_all, writing, refused, apart, validated_clash, request, then_requests, Work, Run}
+use Rattle.uxn_cli.proofs.Common.{IsCutOff, IsEarly, IsPrefixOf, HoldsPrefixes, LeavesPrefixes, IsCutShort, RunJob, job_outputs, first_state, reference_trace, trace_of, log_texts, report_of, outcome_of}
+use Rattle.uxn_cli.proofs.Common.{reporting, running, creating_all, filling, filling_all, writing, refused, apart, validated_clash, request, then_steps, Work, Run}
 use Rattle.uxn_cli.proofs.Common.{Write, Print, RunLine, root_view_in, Text, ComesOut}
 use Rattle.vector_loop.specs.AppendingLaws.{Adds, run-adds}
 use Rattle.uxn_arguments.specs.Words.{task_of}
 use Rattle.uxn_cli.specs.RunJob.{wanted_outputs}
 use Rattle.std.specs.FinMap as fin
-use Rattle.uxn_cli.proofs.GuaranteedLemmas.{where_known}
+use Rattle.uxn_cli.proofs.GuaranteedLemmas.{where_known, where_both}
 use Rattle.uxn_cli.proofs.ClauseLemmas.{early_known, ends_known, outcome_usual}
 use Rattle.uxn_cli.proofs.RootLemmas.{outputs-outside}
 use Rattle.uxn_cli.proofs.GivesLemmas.{verdict-writes}
@@ -99,10 +99,10 @@ module _ (path : List ℕ) where
         go false apart (inr is) = inr (inserted-other nodes path other (File []) apart ∙ is)
 
 -- the run of a job only adds to files outside its root
-trace-adds : (path : List ℕ) (files : Option Nodes) (job : RunJob) → IsOutside job.root path → Each (Adds path) (trace_of files job).changes
+trace-adds : (path : List ℕ) (files : Option Nodes) (job : RunJob) → IsOutside job.task.root path → Each (Adds path) (trace_of files job).changes
 unfolding reference_trace
 trace-adds path files job outside =
-    run-adds path job.budget (wanted_outputs job.frames job.samples) job.script (first_state (new_core job.rom) job.script (root_view_in files job.root))
+    run-adds path job.task.budget (wanted_outputs job.task.frames job.task.samples) job.script (first_state (new_core job.rom) job.script (root_view_in files job.task.root))
     (record { outside = outside; first = refl; second = refl })
 
 -- work that writes a file
@@ -113,9 +113,9 @@ unfolding running writing
 work-prefix path files task nodes (Run job) made rest apart e whole parts =
     let writes = verdict-writes nodes task (Run job) e in
     let outside = outputs-outside task path apart (ap (list_any (bytes_eq path)) (sym writes.paths) ∙ whole) in
-    let adds = each-append (Adds path) (reporting job.report job.script.version (trace_of files job)) (filling_all (log_texts job.debug (trace_of files job)))
-    (each-append (Adds path) (trace_of files job).changes (filling_all (report_of job.report job.script.version (trace_of files job).last)) (trace-adds path files job (rw writes.root outside))
-    (filling-adds path (report_of job.report job.script.version (trace_of files job).last))) (filling-adds path (log_texts job.debug (trace_of files job))) in
+    let adds = each-append (Adds path) (reporting job.task.report job.script.version (trace_of files job)) (filling_all (log_texts job.debug (trace_of files job)))
+    (each-append (Adds path) (trace_of files job).changes (filling_all (report_of job.task.report job.script.version (trace_of files job).last)) (trace-adds path files job (rw writes.root outside))
+    (filling-adds path (report_of job.task.report job.script.version (trace_of files job).last))) (filling-adds path (log_texts job.debug (trace_of files job))) in
     subst (λ changes. IsPrefix path (fin.get nodes path) (fin.get (files_by nodes made) path) (fin.get (files_by nodes changes) path)) (sym parts)
     (prefix-of path _ rest adds (fin.get nodes path) (job_outputs job) nodes made parts (inl (refl, whole)))
 work-prefix path files task nodes (Write texts) made rest apart e whole parts =
@@ -165,23 +165,27 @@ requested_apart words = named (refused (task_of words))
     clashing task None is = is
     clashing task (Some path) is = tt
 
-    named : (said : Result Task Refusal) → IfOk (then_requests said apart) HasApartOutputs
+    named : (said : Result Task Refusal) → IfOk (then_steps said apart) HasApartOutputs
     named (Err refusal) = tt
     named (Ok task) = clashing task (first_clash task) refl
 
 -- a prefix of the changes gives a prefix of each
-module _ (requested : Result Task Refusal) (before : World) (nodes : Nodes) (contents : before.files ≡ Some nodes) (apart_too : IfOk requested HasApartOutputs) where
-  stands_cut : (made rest : List Change) → (outcome_of before.files (tree_verdict nodes requested)).changes ≡ made ++ rest → HoldsTruncated (tree_verdict nodes requested) before (changed_by before made)
-  stands_cut made rest parts =
-      let first = adds_to before made in
-      let last = adds_to (changed_by before made) rest in
-      let whole : changed_by before (outcome_of before.files (tree_verdict nodes requested)).changes ≡ changed_by (changed_by before made) rest = ap (changed_by before) parts ∙ changed_by-append before made rest in
-      record {
-        cut = record { made = made; rest = rest; parts = parts; left = refl };
-        out = record { kept = first.0; prefix = subst (λ (w : World). IsPrefixOf (changed_by before made).out w.out) (sym whole) last.0 };
-        err = record { kept = first.1; prefix = subst (λ (w : World). IsPrefixOf (changed_by before made).err w.err) (sym whole) last.1 };
-        files = λ path is. holds-prefix path requested before nodes made rest apart_too contents parts is;
-      }
+pub leaves_prefixes : (c : Call) → IsCutShort c → LeavesPrefixes c
+leaves_prefixes c short =
+    let before = c.before.world in
+    where_both before.files (λ nodes. IsEarly c.status → IsCutOff before c.now.world (outcome_of before.files (tree_verdict nodes (call_request c))).changes) _ short
+    (λ nodes contents is early.
+    let verdict = tree_verdict nodes (call_request c) in
+    let cut = is early in
+    let first = adds_to before cut.made in
+    let last = adds_to (changed_by before cut.made) cut.rest in
+    let whole : changed_by before (outcome_of before.files verdict).changes ≡ changed_by (changed_by before cut.made) cut.rest =
+    ap (changed_by before) cut.parts ∙ changed_by-append before cut.made cut.rest in
+    subst (HoldsPrefixes verdict before) (sym cut.left) (record {
+      out = record { kept = first.0; prefix = subst (λ (w : World). IsPrefixOf (changed_by before cut.made).out w.out) (sym whole) last.0 };
+      err = record { kept = first.1; prefix = subst (λ (w : World). IsPrefixOf (changed_by before cut.made).err w.err) (sym whole) last.1 };
+      files = λ path is. holds-prefix path (call_request c) before nodes cut.made cut.rest (requested_apart c.words) contents cut.parts is;
+    }))
 
 pub is_cut_short : (c : Call) → ComesOut c → IsCutShort c
 is_cut_short c comes =
@@ -191,9 +195,7 @@ is_cut_short c comes =
     where_known before.files _ (λ nodes contents is. elim (ends_known (call_request c) before now nodes contents c.status comes.outcome) [
       | inl has ↦ absurd (outcome_usual (verdict nodes) before now c.status has is)
       | inr early ↦ elim (early_known (call_request c) before now nodes contents early.stop early.stands) [
-        | inl same ↦ subst (HoldsTruncated (verdict nodes) before) (sym same)
-            (stands_cut (call_request c) before nodes contents (requested_apart c.words) [] (outcome_of before.files (verdict nodes)).changes refl)
-        | inr cut ↦ subst (HoldsTruncated (verdict nodes) before) (sym cut.prefix.cut.left)
-            (stands_cut (call_request c) before nodes contents (requested_apart c.words) cut.prefix.cut.made cut.prefix.cut.rest cut.prefix.cut.parts)
+        | inl same ↦ record { made = []; rest = (outcome_of before.files (verdict nodes)).changes; parts = refl; left = same }
+        | inr done ↦ done.1.cut
       ]
     ])

@@ -2,7 +2,7 @@
 use Rattle.uxn_cli.proofs.Common.{◌≡◌, ℕ, true, false, true≢false, List, [], ◌∷◌, ◌++◌, refl, ap, sym, ◌∙◌, arith, Option, Some, None, IfSome}
 use Rattle.uxn_cli.proofs.Common.{option_to_list, find, list_any, bytes_eq, or_parts, false_from_ne_true, is_in, below, parent_is_folder, below-same}
 use Rattle.uxn_cli.proofs.Common.{suits, Nodes, File, is_folder, is_folder_at, Creates, changed_files, files_by, inserted-other, root_view_in, creating_all}
-use Rattle.uxn_cli.proofs.Common.{Task, command_inputs, outputs_of, command_root, meets, clashes, HasApartOutputs, one_if, none_among, count-first, meets_parts}
+use Rattle.uxn_cli.proofs.Common.{Task, inputs_of, outputs_of, root_of, meets, clashes, HasApartOutputs, one_if, none_among, count-first, meets_parts}
 use Rattle.uxn_cli.proofs.Common.{meets_one, clash_parts}
 use Rattle.uxn_io_traits.specs.PathText.{parent_of}
 use Rattle.uxn_io_traits.specs.PathLaws.{parent_under}
@@ -16,21 +16,21 @@ apart_from inputs outputs root path none among =
     (λ is. let one = ap one_if is in omega (arith, few, count-first (meets path) root outputs, meets_one path outputs among, one))
 
 -- the outputs of a task lie apart from its root
-pub all-apart : (task : Task) → HasApartOutputs task → IfSome (command_root task.command task) (λ r. (path : List ℕ) → list_any (bytes_eq path) (outputs_of task) ≡ true → meets path r ≡ false)
-all-apart task apart = go (command_root task.command task) apart
+pub all-apart : (task : Task) → HasApartOutputs task → IfSome (root_of task) (λ r. (path : List ℕ) → list_any (bytes_eq path) (outputs_of task) ≡ true → meets path r ≡ false)
+all-apart task apart = go (root_of task) apart
   where
-    go : (root : Option (List ℕ)) → find (clashes (command_inputs task.command task) (option_to_list root ++ outputs_of task)) (outputs_of task) ≡ None
+    go : (root : Option (List ℕ)) → find (clashes (inputs_of task) (option_to_list root ++ outputs_of task)) (outputs_of task) ≡ None
         → IfSome root (λ r. (path : List ℕ) → list_any (bytes_eq path) (outputs_of task) ≡ true → meets path r ≡ false)
     go None none = tt
-    go (Some root) none = λ path among. apart_from (command_inputs task.command task) (outputs_of task) root path none among
+    go (Some root) none = λ path among. apart_from (inputs_of task) (outputs_of task) root path none among
 
 apart-outside : (root path : List ℕ) → meets path root ≡ false → is_in root path ≡ false
 unfolding is_in
 apart-outside root path apart = let parts = meets_parts path root apart in rw (parts.0, parts.1) refl
 
 -- so a device at its path would not suit the root
-pub outputs-outside : (task : Task) (path : List ℕ) → HasApartOutputs task → list_any (bytes_eq path) (outputs_of task) ≡ true → suits (command_root task.command task) (Some path) ≡ false
-outputs-outside task path apart among = go (command_root task.command task) (all-apart task apart)
+pub outputs-outside : (task : Task) (path : List ℕ) → HasApartOutputs task → list_any (bytes_eq path) (outputs_of task) ≡ true → suits (root_of task) (Some path) ≡ false
+outputs-outside task path apart among = go (root_of task) (all-apart task apart)
   where
     go : (root : Option (List ℕ)) → IfSome root (λ r. (path : List ℕ) → list_any (bytes_eq path) (outputs_of task) ≡ true → meets path r ≡ false) → suits root (Some path) ≡ false
     go None all = refl

@@ -4,11 +4,11 @@ use Rattle.uxn_cli.proofs.Common.{Result, Ok, Err, OnOk, IfSome, is_err, IsSome,
 use Rattle.uxn_cli.proofs.Common.{bytes_eq-Decides, Failed, Label, with_appended, Nodes, Change, ToFile, World, changed_by, files_by, cut-first}
 use Rattle.uxn_cli.proofs.Common.{files-contents, Done, Ended, blame_of_tree, ended-then, ended-first, outside-of-tree, ledger-then, Blame, Nobody}
 use Rattle.uxn_cli.proofs.Common.{TheTree, ASink, TreeState, SinkState, Outside, outside, Stop, TreeFault, SinkFault, NoMemory, BusRepresents}
-use Rattle.uxn_cli.proofs.Common.{FilesStay, IsFileWhereKnown, ScriptView, State, Trace, CountingLaw, DebugCommand, IsMachine, RunLaw, Task, Debug}
-use Rattle.uxn_cli.proofs.Common.{outputs_of, command_root, paths_used, HasApartOutputs, run_files, role_path, Halt, Refused, Stopped, world, result_blame}
-use Rattle.uxn_cli.proofs.Common.{Debugging, RunJob, RootView, root_view_in, first_devices, log_paths, job_outputs, reference_trace, trace_of, state_shown, log_text}
-use Rattle.uxn_cli.proofs.Common.{log_texts, requested_output, creating_all, filling_all, reporting, running, TreeSuffices, SinksSuffice, Run, run_job, debugging}
-use Rattle.uxn_cli.proofs.Common.{HasUnknownContents, ListsFolder, MayStop, Performs, DoesWork, AreNew, IsPlanned, IsReadyRun, prepared_plan, Gives, inquiry_of, planned, HasNoRoot}
+use Rattle.uxn_cli.proofs.Common.{FilesStay, IsFileWhereKnown, ScriptView, State, Trace, CountingLaw, DebugCommand, IsMachine, RunLaw, Task, DebugTask, RunTask}
+use Rattle.uxn_cli.proofs.Common.{outputs_of, root_of, HasApartOutputs, Halt, Refused, Stopped, world, result_blame}
+use Rattle.uxn_cli.proofs.Common.{Debugging, RunJob, RootView, root_view_in, first_devices, log_of, job_outputs, reference_trace, trace_of, state_shown, log_text}
+use Rattle.uxn_cli.proofs.Common.{log_texts, requested_output, creating_all, filling_all, reporting, running, TreeSuffices, SinksSuffice, Run, debugging}
+use Rattle.uxn_cli.proofs.Common.{HasUnknownContents, ListsFolder, MayStop, Performs, DoesWork, AreNew, IsPlanned, IsReadyRun, prepared_job, prepared_plan, Gives, inquiry_of, planned, HasNoRoot}
 use Rattle.uxn_cli.proofs.Common.{prepared_debugging, Made, HalfDone, MakesOutputs, model_of_program, stop_blame, IfSome_then, CutShort, arith, result_and, result_or}
 use Rattle.uxn_cli.proofs.Common.{Each, HostState, host_state, observed_outside, Exits, EndsBy, CountsRefusals, OnRefused}
 use Rattle.std.proofs.Math.Bool.{or-true}
@@ -31,15 +31,13 @@ use Rattle.uxn_cli.specs.declared.running.RunEnd.{RunEnd}
 use Rattle.uxn_cli.specs.declared.playing.Prepared.{Prepared}
 use Rattle.uxn_cli.specs.RunsFromRoot.{AtRootView, RunFiles, RunsFromRoot, RunsOverOutside, WasShown, blame_if, task_settings, task_trace, logged_changes}
 use Rattle.std.specs.Prelude.{IfErr}
-use Rattle.uxn_arguments.specs.declared.role.Access.TheVariants as access
-use Rattle.uxn_arguments.specs.declared.role.Role.TheVariants as role
-use Rattle.uxn_cli.proofs.JobLemmas.{run-job}
+use Rattle.uxn_arguments.specs.declared.task.Task.TheVariants as tasks
 use Rattle.uxn_cli.proofs.RegularLemmas.{is-regular}
 use Rattle.uxn_cli.proofs.RootLemmas.{outputs-outside, root_view-made, all-apart}
 use Rattle.uxn_cli.proofs.GuaranteedLemmas.{always}
 use Rattle.uxn_cli.proofs.ChangeLemmas.{made-of-tree}
-use Rattle.uxn_cli.proofs.PlanLemmas.{plan-outputs, plan-root, plan-accepted}
-use Rattle.uxn_cli.proofs.WorkLemmas.{halted-looked, does-all, does-prefix, is-cut}
+use Rattle.uxn_cli.proofs.PlanLemmas.{plan-outputs, plan-accepted}
+use Rattle.uxn_cli.proofs.WorkLemmas.{halted-looked, does-all, does-prefix}
 use Rattle.uxn_cli.proofs.WriteLemmas.{does-refuse}
 use Rattle.uxn_cli.proofs.RefusalLemmas.{counts-run}
 use Rattle.uxn_task_files.proofs.DidLemmas.{refused-then}
@@ -58,11 +56,11 @@ shown-fold : (states : List State) (held : Watching) → shown_all after_moment 
 shown-fold [] held = refl
 shown-fold (state ∷ states) held = shown-fold states (shown_to held (state_shown state))
 
-module _ (keeps : KeepsTheLog) (counting : CountingLaw) (in_row : RunLaw) (task : Task) (machine : Machine) (is : IsMachine machine.core) where
-  pub kept-log : (commands : List DebugCommand) (labels : List Label) (before now : Watching) → before ≡ new_watching commands labels → (root_view : RootView)
-      → WasShown after_moment after_end before (task_trace task machine root_view) now → now.log ≡ log_text (debugging task commands labels) (task_trace task machine root_view)
+module _ (keeps : KeepsTheLog) (counting : CountingLaw) (in_row : RunLaw) (task : RunTask) (machine : Machine) (is : IsMachine machine.core) where
+  pub kept-log : (debug : DebugTask) (commands : List DebugCommand) (labels : List Label) (before now : Watching) → before ≡ new_watching commands labels → (root_view : RootView)
+      → WasShown after_moment after_end before (task_trace task machine root_view) now → now.log ≡ log_text (debugging debug commands labels) (task_trace task machine root_view)
   unfolding log_text
-  kept-log commands labels before now new root_view was =
+  kept-log debug commands labels before now new root_view was =
       let trace = task_trace task machine root_view in
       ap (λ w. w.log) was ∙ ap (λ held. (ended_by (shown_all after_moment held trace.moments) (state_shown trace.last)).log) new
       ∙ ap (λ held. (ended_by held (state_shown trace.last)).log) (shown-fold trace.moments (new_watching commands labels))
@@ -157,10 +155,6 @@ module _ (root : Option (List ℕ)) (trace : RootView → Trace) (first : Trace 
 
 -- ---- the files that a run writes
 
--- the outputs of a run among the outputs of a task
-abbrev pub run_outputs : Task → List (List ℕ)
-run_outputs task = paths_used access.Write task run_files
-
 -- what holds of each path that is among some
 module _ (P : List ℕ → Type 0) where
   each-among : (paths : List (List ℕ)) → ((path : List ℕ) → list_any (bytes_eq path) paths ≡ true → P path) → Each P paths
@@ -170,17 +164,17 @@ module _ (P : List ℕ → Type 0) where
     each-among paths (λ other among. all other (ap (λ b. bytes_eq other path || b) among ∙ or-true (bytes_eq other path))),
   )
 
-  first-of : (file : Option (List ℕ)) (rest : List (List ℕ)) → Each P (option_to_list file ++ rest) → IfSome file P
-  first-of None rest each = tt
-  first-of (Some path) rest each = each.0
+  each-parts : (first last : List (List ℕ)) → Each P (first ++ last) → Each P first × Each P last
+  each-parts [] last each = (tt, each)
+  each-parts (path ∷ first) last each = let rest = each-parts first last each.1 in ((each.0, rest.0), rest.1)
 
-  rest-of : (file : Option (List ℕ)) (rest : List (List ℕ)) → Each P (option_to_list file ++ rest) → Each P rest
-  rest-of None rest each = each
-  rest-of (Some path) rest each = each.1
+  one-of : (file : Option (List ℕ)) → Each P (option_to_list file) → IfSome file P
+  one-of None each = tt
+  one-of (Some path) each = each.0
 
-  log-of : (debug : Option Debugging) (rest : List (List ℕ)) → Each P (log_paths debug ++ rest) → IfSome debug (λ d. IfSome d.log P) × Each P rest
-  log-of None rest each = (tt, each)
-  log-of (Some d) rest each = (first-of d.log rest each, rest-of d.log rest each)
+  log-one : (debug : Option Debugging) → IfSome (log_of (option_map (λ debugging. debugging.task) debug)) P → IfSome debug (λ d. P d.task.log)
+  log-one None holds = tt
+  log-one (Some d) holds = holds
 
 -- how a task ended whose run did
 abbrev pub answered : Result RunEnd Stop → Result ℕ Halt
@@ -194,7 +188,7 @@ same-blame result = grind arith
 
 module _ (task : Task) (start : TreeState) (job : RunJob) (included : List (List ℕ)) (plan : IsPlanned start.contents task (planned (Run job) included)) where
   abbrev rest : Option Nodes → List Change
-  rest files = reporting job.report job.script.version (trace_of files job) ++ filling_all (log_texts job.debug (trace_of files job))
+  rest files = reporting job.task.report job.script.version (trace_of files job) ++ filling_all (log_texts job.debug (trace_of files job))
 
   half-made : (now : TreeState) (out err : SinkState) → HalfDone included (outputs_of task) (creating_all (outputs_of task)) start now
       → DoesWork (Ok task) (host_state start out err) (host_state now out err) (Err (Stopped TreeFault))
@@ -212,9 +206,9 @@ module _ (task : Task) (start : TreeState) (job : RunJob) (included : List (List
       → DoesWork (Ok task) (host_state start out err) (host_state now out err) (Err halt)
   does-unmade now out err (Refused refusal) refuses = does-refuse task start _ plan now out err refusal refuses
   does-unmade now out err (Stopped NoMemory) looked =
-      halted-looked (Ok task) start now out err (Stopped NoMemory) (inl (ap (λ t. world t out.contents err.contents) looked.contents)) (λ is. cc is) looked
+      halted-looked (Ok task) start now out err (Stopped NoMemory) (inr (ap (λ t. world t out.contents err.contents) looked.contents)) (λ is. cc is) looked
   does-unmade now out err (Stopped TreeFault) (inl looked) =
-      halted-looked (Ok task) start now out err (Stopped TreeFault) (inl (ap (λ t. world t out.contents err.contents) looked.contents)) (λ is. cc is) looked
+      halted-looked (Ok task) start now out err (Stopped TreeFault) (inr (ap (λ t. world t out.contents err.contents) looked.contents)) (λ is. cc is) looked
   does-unmade now out err (Stopped TreeFault) (inr half) = half-made now out err half
   does-unmade now out err (Stopped SinkFault) none = absurd none
 
@@ -252,93 +246,105 @@ at-start contents_of_tree bus devices tree script root_view held borrowed root n
 }
 
 -- memory ran out to the debugger, or where there is a root and a run beneath it takes the names of a folder
-lists : (files : Option Nodes) (job : RunJob) → IsSome job.debug ⊎ IsSome job.root → IsSome job.debug ⊎ TraceTakesNames (trace_of files job) → IsSome job.debug ⊎ ListsFolder files job
+lists : (files : Option Nodes) (job : RunJob) → IsSome job.debug ⊎ IsSome job.task.root → IsSome job.debug ⊎ TraceTakesNames (trace_of files job) → IsSome job.debug ⊎ ListsFolder files job
 lists files job (inl watched) takes = inl watched
 lists files job (inr root) (inl watched) = inl watched
 lists files job (inr root) (inr takes) = inr (record { root = root; takes = takes })
 
 -- the folder of a program's own files once the outputs were made
-root_view-files : (tree made : Option Nodes) (task : Task) (out err : Option (List ℕ)) → HasApartOutputs task → command_root task.command task ≡ (role_path task role.Root)
+root_view-files : (tree made : Option Nodes) (task : Task) (out err : Option (List ℕ)) → HasApartOutputs task
     → world made out err ≡ changed_by (world tree out err) (creating_all (outputs_of task))
-    → HasFiles made (role_path task role.Root) (root_view_in tree (role_path task role.Root)).part (root_view_in tree (role_path task role.Root)).parent ⊎ ((tree ≡ None) × IsSome (role_path task role.Root))
-root_view-files None made task out err apart same is =
-    let gone : made ≡ None = ap (λ w. w.files) is ∙ files-contents (world None out err) (creating_all (outputs_of task)) in go (role_path task role.Root) gone
+    → HasFiles made (root_of task) (root_view_in tree (root_of task)).part (root_view_in tree (root_of task)).parent ⊎ ((tree ≡ None) × IsSome (root_of task))
+root_view-files None made task out err apart is =
+    let gone : made ≡ None = ap (λ w. w.files) is ∙ files-contents (world None out err) (creating_all (outputs_of task)) in go (root_of task) gone
   where
     go : (root : Option (List ℕ)) → made ≡ None → HasFiles made root (root_view_in None root).part (root_view_in None root).parent ⊎ ((◌≡◌ {A = Option Nodes} None None) × IsSome root)
     go None gone = inl (rw gone (refl, refl, refl))
     go (Some root) gone = inr (refl, refl)
-root_view-files (Some nodes) made task out err apart same is =
-    let root = role_path task role.Root in
+root_view-files (Some nodes) made task out err apart is =
+    let root = root_of task in
     let now : made ≡ Some (files_by nodes (creating_all (outputs_of task))) = ap (λ w. w.files) is ∙ files-contents (world (Some nodes) out err) (creating_all (outputs_of task)) in
-    let kept : root_view_in (Some (files_by nodes (creating_all (outputs_of task)))) root ≡ root_view_in (Some nodes) root = root_view-made root (outputs_of task) nodes (rw same at (all-apart task apart)) in
+    let kept : root_view_in (Some (files_by nodes (creating_all (outputs_of task)))) root ≡ root_view_in (Some nodes) root = root_view-made root (outputs_of task) nodes (all-apart task apart) in
     inl (rw now (sym (ap (λ h. h.part) kept), sym (ap (λ h. h.parent) kept)))
 
 -- a machine that is ready runs the trace of its job
-module _ (task : Task) (start made : TreeState) (prepared : Prepared) (plan : IsPlanned start.contents task (prepared_plan task prepared)) (of : IsReadyRun task prepared)
-    (apart : HasApartOutputs task) (makes : Made (model_of_program prepared.program).included (outputs_of task) start made) where
+module _ (run : RunTask) (asked : Option DebugTask) (start made : TreeState) (prepared : Prepared)
+    (plan : IsPlanned start.contents (tasks.Run run asked) (prepared_plan run prepared)) (of : IsReadyRun run asked prepared)
+    (apart : HasApartOutputs (tasks.Run run asked)) (makes : Made (model_of_program prepared.program).included (outputs_of (tasks.Run run asked)) start made) where
+  abbrev task : Task
+  task = tasks.Run run asked
+
   abbrev debug : Option Debugging
-  debug = prepared_debugging task prepared
+  debug = prepared_debugging prepared
 
   abbrev ready_job : RunJob
-  ready_job = run_job task (model_of_program prepared.program).rom prepared.machine.script (prepared_debugging task prepared)
+  ready_job = prepared_job run prepared
 
   abbrev ready_view : RootView
-  ready_view = root_view_in start.contents (role_path task role.Root)
+  ready_view = root_view_in start.contents run.root
 
   outputs : outputs_of task ≡ job_outputs ready_job
   outputs = plan-outputs start.contents task _ plan
 
-  root : command_root task.command task ≡ (role_path task role.Root)
-  root = sym (plan-root start.contents task _ plan)
+  ready-trace : task_trace run prepared.machine ready_view ≡ trace_of start.contents ready_job
+  ready-trace = ap (reference_trace run.budget (task_settings run).outputs prepared.machine.script ready_view) of.core
 
-  ready-trace : task_trace task prepared.machine ready_view ≡ trace_of start.contents ready_job
-  ready-trace = ap (reference_trace task.budget (task_settings task).outputs prepared.machine.script ready_view) of.core
+  abbrev IsReadyOutput : List ℕ → Type 0
+  IsReadyOutput path = IsOutput run.root made.contents path
 
-  output-at : (path : List ℕ) → list_any (bytes_eq path) (log_paths debug ++ run_outputs task) ≡ true → IsOutput (role_path task role.Root) made.contents path
+  output-at : (path : List ℕ) → list_any (bytes_eq path) (job_outputs ready_job) ≡ true → IsReadyOutput path
   output-at path among =
-      let here : list_any (bytes_eq path) (outputs_of task) ≡ true = rw outputs (subst (λ runs. list_any (bytes_eq path) (log_paths debug ++ runs) ≡ true) (run-job task) among) in
-      record { file = makes.files path here; outside = rw root at (outputs-outside task path apart here) }
+      let here : list_any (bytes_eq path) (outputs_of task) ≡ true = rw outputs among in
+      record { file = makes.files path here; outside = outputs-outside task path apart here }
 
-  -- its log, and its other files
-  pub ready-outputs : IfSome debug (λ d. IfSome d.log (IsOutput (role_path task role.Root) made.contents)) × Each (IsOutput (role_path task role.Root) made.contents) (run_outputs task)
-  ready-outputs = log-of _ debug (run_outputs task) (each-among _ (log_paths debug ++ run_outputs task) output-at)
+  abbrev log : Option (List ℕ)
+  log = log_of (option_map (λ debugging. debugging.task) debug)
 
-  pub ready-files : RunFiles task made.contents
-  ready-files =
-      let P = IsOutput (role_path task role.Root) made.contents in
-      let behind = rest-of P (role_path task role.Frames) _ ready-outputs.1 in
-      record {
-        frames = first-of P (role_path task role.Frames) _ ready-outputs.1;
-        samples = first-of P (role_path task role.Samples) _ behind;
-        report = first-of P (role_path task role.Report) [] (rest-of P (role_path task role.Samples) _ behind);
-      }
+  reports : Each IsReadyOutput (option_to_list log ++ option_to_list run.frames ++ option_to_list run.samples) × Each IsReadyOutput (option_to_list run.report)
+  reports = each-parts IsReadyOutput _ (option_to_list run.report) (each-among _ (job_outputs ready_job) output-at)
+
+  samples : Each IsReadyOutput (option_to_list log ++ option_to_list run.frames) × Each IsReadyOutput (option_to_list run.samples)
+  samples = each-parts IsReadyOutput _ (option_to_list run.samples) reports.0
+
+  frames : Each IsReadyOutput (option_to_list log) × Each IsReadyOutput (option_to_list run.frames)
+  frames = each-parts IsReadyOutput _ (option_to_list run.frames) samples.0
+
+  pub ready-log : IfSome debug (λ d. IsOutput run.root made.contents d.task.log)
+  ready-log = log-one IsReadyOutput debug (one-of IsReadyOutput log frames.0)
+
+  pub ready-files : RunFiles run made.contents
+  ready-files = record {
+    frames = one-of IsReadyOutput run.frames frames.1;
+    samples = one-of IsReadyOutput run.samples samples.1;
+    report = one-of IsReadyOutput run.report reports.1;
+  }
 
   -- the run, behind outputs that were made
-  module _ (out err : SinkState) (now : HostState) (refuses : (role_path task role.Root) ≡ None → RefusesNone made now.tree) where
+  module _ (out err : SinkState) (now : HostState) (refuses : run.root ≡ None → RefusesNone made now.tree) where
     begun : Done (creating_all (outputs_of task)) (outside start out err) (outside made out err)
     begun = outside-of-tree (creating_all (outputs_of task)) false start made out err (made-of-tree (outputs_of task)) makes.did
 
-    root_view : HasFiles made.contents (role_path task role.Root) ready_view.part ready_view.parent ⊎ ((start.contents ≡ None) × IsSome (role_path task role.Root))
-    root_view = root_view-files start.contents made.contents task out.contents err.contents apart root begun.world
+    root_view : HasFiles made.contents run.root ready_view.part ready_view.parent ⊎ ((start.contents ≡ None) × IsSome run.root)
+    root_view = root_view-files start.contents made.contents task out.contents err.contents apart begun.world
 
     given : Gives start.contents (inquiry_of (Ok task)) (Ok (Run ready_job))
     given = plan-accepted start.contents task _ plan makes.free
 
     abbrev Went : Result RunEnd Stop → Type 0
-    Went result = RunsFromRoot (role_path task role.Root) (task_trace task prepared.machine) (logged_changes task prepared.machine debug) (IsSome debug) (outside made out err) (observed_outside now) result
+    Went result = RunsFromRoot run.root (task_trace run prepared.machine) (logged_changes run prepared.machine debug) (IsSome debug) (outside made out err) (observed_outside now) result
 
     abbrev Ran : Result RunEnd Stop → Type 0
-    Ran result = RunsOverOutside (trace_of start.contents ready_job) (logged_changes task prepared.machine debug (trace_of start.contents ready_job)) (IsSome debug) (outside made out err) (observed_outside now) result
+    Ran result = RunsOverOutside (trace_of start.contents ready_job) (logged_changes run prepared.machine debug (trace_of start.contents ready_job)) (IsSome debug) (outside made out err) (observed_outside now) result
 
     -- all of it, with the outputs
     all : (result : Result RunEnd Stop) → Ran result → Ended (running start.contents ready_job) (blame_if result) (outside start out err) (observed_outside now)
     unfolding running
     all result ran =
-        rw outputs at (ended-then (creating_all (outputs_of task)) (logged_changes task prepared.machine debug (trace_of start.contents ready_job)) (blame_if result)
+        rw outputs at (ended-then (creating_all (outputs_of task)) (logged_changes run prepared.machine debug (trace_of start.contents ready_job)) (blame_if result)
         (outside start out err) (outside made out err) (observed_outside now) begun ran.made)
 
     none-refused : HasNoRoot (Ok task) → CreateRefused None start now.tree
-    none-refused none = refused-then None start made now.tree makes.refusals makes.did.counted.promise (refuses (sym root ∙ none)).none
+    none-refused none = refused-then None start made now.tree makes.refusals makes.did.counted.promise (refuses none).none
 
     passes : (result : Result RunEnd Stop) → Went result → CountsRefusals (Ok task) start now.tree err now.err (answered result)
     passes (Ok end) runs = counts-run (Ok task) start now.tree err now.err (Exits end.exit) runs.code (λ reason no. cc) none-refused
@@ -357,13 +363,13 @@ module _ (task : Task) (start made : TreeState) (prepared : Prepared) (plan : Is
 
     -- where its contents are unknown
     performs : HasUnknownContents start.contents (Ok (Run ready_job)) → (result : Result RunEnd Stop) → Went result → Performs (Ok task) (world start.contents out.contents err.contents) (observed_outside now).world (answered result)
-    performs unknown (Ok end) runs = record { found = Ok (Run ready_job); given = given; has = inr (unknown, runs.code) }
-    performs unknown (Err stop) runs = is-cut _ _ _ stop (record { found = Ok (Run ready_job); given = given; may = inr unknown; prefix = inr unknown })
+    performs unknown (Ok end) runs = inl (record { found = Ok (Run ready_job); given = given; has = inr (unknown, runs.code) })
+    performs unknown (Err stop) runs = inl (record { found = Ok (Run ready_job); given = given; has = inr (unknown, tt) })
 
     pub does-run : (result : Result RunEnd Stop) → Went result → DoesWork (Ok task) (host_state start out err) now (answered result)
     does-run result runs = elim root_view [
       | inl files ↦ does-contents result runs
-          (subst (λ t. RunsOverOutside t (logged_changes task prepared.machine debug t) (IsSome debug) (outside made out err) (observed_outside now) result) ready-trace
+          (subst (λ t. RunsOverOutside t (logged_changes run prepared.machine debug t) (IsSome debug) (outside made out err) (observed_outside now) result) ready-trace
           (runs.from ready_view refl files))
       | inr none ↦ record {
         performs = performs (rw none.0 none.1) result runs;
@@ -374,7 +380,3 @@ module _ (task : Task) (start made : TreeState) (prepared : Prepared) (plan : Is
         kept = elim result as (λ r. OnRefused (answered r) (now.err ≡ err)) [ Ok end ↦ tt | Err stop ↦ tt ];
       }
     ]
-
--- what `debug` makes
-pub debug-outputs : (task : Task) → task.command ≡ Debug → outputs_of task ≡ option_to_list (role_path task role.Log) ++ run_outputs task
-debug-outputs task debug = rw debug refl

@@ -1,5 +1,5 @@
 -- Words that are refused, and the line of a refusal.
-use Rattle.uxn_cli.proofs.Common.{ℕ, refl, ap, ◌∙◌, subst, inl, Result, Ok, Err, ledger-same, ledger-then, Nobody, ASink, changed_by, TreeState}
+use Rattle.uxn_cli.proofs.Common.{ℕ, refl, ap, ◌∙◌, subst, inl, inr, Result, Ok, Err, ledger-same, ledger-then, Nobody, ASink, changed_by, TreeState}
 use Rattle.uxn_cli.proofs.Common.{SinkState, Stop, TreeFault, SinkFault, NoMemory, Task, Refusal, Refused, as_step, Says, refusal_line}
 use Rattle.uxn_cli.proofs.Common.{Puts, status_of, world, DoesWork, outside-of-err, to_err, false, true, HostState, host_state}
 use Rattle.uxn_inquiry.specs.declared.halt.Halt.{Halt as InquiryHalt}
@@ -35,6 +35,6 @@ module _ (requested : Result Task Refusal) (before : HostState) (files : TreeSta
       (ledger-then _ _ _ ASink does.ledger (outside-of-err (refusal_line refusal) true files out err now puts).ledger)
       (always before.tree.contents _ _ (λ e. cc e)) (λ s e. puts.blamed refl (rw (← does.kept) at s)) (counts-line requested before files err refusal now (Err SinkFault) does.refusals does.kept puts)
   refusal-does (Err NoMemory) puts =
-      does-unblamed requested before _ _ refl (inl (ap (λ (e : SinkState). world files.contents out.contents e.contents) puts ∙ does.performs.same)) (rw puts does.ledger)
+      does-unblamed requested before _ _ refl (inr (ap (λ (e : SinkState). world files.contents out.contents e.contents) puts ∙ does.performs.same)) (rw puts does.ledger)
       (counts-line requested before files err refusal now (Err NoMemory) does.refusals does.kept puts) tt
   refusal-does (Err TreeFault) puts = absurd puts

@@ -1,9 +1,9 @@
 -- The work of a task, from what was accepted to what was done.
 use Rattle.uxn_cli.proofs.Common.{◌≡◌, ℕ, ◌<◌, Bool, true, false, List, [], length, refl, ap, ◌∙◌, subst, inl, inr, sym, arith, Option, Some, None}
 use Rattle.uxn_cli.proofs.Common.{Result, Ok, Err, IfSome, TreeLooked, counted-same, ledger-same, ledger-then, AllCounted, Ledger, Change}
-use Rattle.uxn_cli.proofs.Common.{Nobody, TheTree, ASink, counts, Nodes, Stop, TreeFault, SinkFault, NoMemory, Task, Refusal, Halt, Refused, Stopped, world, World}
+use Rattle.uxn_cli.proofs.Common.{Nobody, TheTree, ASink, counts, Nodes, Stop, TreeFault, SinkFault, NoMemory, Task, Refusal, Halt, Refused, Stopped, world}
 use Rattle.uxn_cli.proofs.Common.{Performs, result_blame, halted_by_tree, tree_verdict, TreeState, SinkState, DoesWork, Puts, IsPlanned, AreFree, TreeSuffices, SinksSuffice}
-use Rattle.uxn_cli.proofs.Common.{Work, Plan, plan_of, inquiry_of, Inquires, Gives, printing, outcome_of, HasPrefix, HasCut, CallIsCut, changed_by, IfSome_then, Outcome}
+use Rattle.uxn_cli.proofs.Common.{Work, Plan, text_plan, plan_of, inquiry_of, Inquires, Gives, printing, outcome_of, HasPrefix, changed_by, IfSome_then, Outcome}
 use Rattle.uxn_cli.proofs.Common.{outside-of-out, stop_blame, MayStop, HostState, host_state, observed_outside, CountsRefusals, OnRefused, PassesNoneOver, early_status}
 use Rattle.uxn_inquiry.specs.declared.halt.Halt.{Halt as InquiryHalt}
 use Rattle.uxn_inquiry.specs.declared.halt.Halt.TheVariants.{Refused as Denied, TreeFault as TreeFailed, NoMemory as OutOfMemory}
@@ -46,12 +46,7 @@ does-unblamed requested before now result nobody performs ledger refusals kept =
 
 -- memory ran out, and nothing was done
 pub does-nothing : (requested : Result Task Refusal) (now : HostState) → DoesWork requested now now (Err (Stopped NoMemory))
-does-nothing requested now = does-unblamed requested now now (Err (Stopped NoMemory)) refl (inl refl) (ledger-same _) (λ any. inl (λ exact. refl)) tt
-
-pub is-cut : (requested : Result Task Refusal) (before now : World) (stop : Stop) → HasCut requested before now stop → CallIsCut requested before now stop
-is-cut requested before now TreeFault has = inr has
-is-cut requested before now SinkFault has = has
-is-cut requested before now NoMemory has = inr has
+does-nothing requested now = does-unblamed requested now now (Err (Stopped NoMemory)) refl (inr refl) (ledger-same _) (λ any. inl (λ exact. refl)) tt
 
 module _ (requested : Result Task Refusal) (before now : HostState) (found : Result Work Refusal) (given : Gives before.tree.contents (inquiry_of requested) found) where
   abbrev files : Option Nodes
@@ -61,14 +56,14 @@ module _ (requested : Result Task Refusal) (before now : HostState) (found : Res
   pub does-all : (code : ℕ) → code ≡ (outcome_of files found).status → (observed_outside now).world ≡ changed_by (observed_outside before).world (outcome_of files found).changes
       → Ledger (observed_outside before).faults (observed_outside now).faults Nobody → PassesNoneOver requested before.tree now.tree before.err now.err code → DoesWork requested before now (Ok code)
   does-all code is done ledger passes =
-      does-unblamed requested before now (Ok code) refl (record { found = found; given = given; has = inl (record { status = is; world = done }) }) ledger passes tt
+      does-unblamed requested before now (Ok code) refl (inl (record { found = found; given = given; has = inl (record { status = is; world = done }) })) ledger passes tt
 
   -- a prefix of it, and whoever is to blame did not suffice
   pub does-prefix : (stop : Stop) → MayStop files found stop → HasPrefix found (observed_outside before).world (observed_outside now).world → Ledger (observed_outside before).faults (observed_outside now).faults (stop_blame stop)
       → IfSome files (λ nodes. TreeSuffices found before.tree.guaranteed nodes → stop_blame stop ≡ TheTree → ⊥)
       → (SinksSuffice files found before.out.guaranteed before.err.guaranteed → stop_blame stop ≡ ASink → ⊥) → PassesNoneOver requested before.tree now.tree before.err now.err (early_status stop) → DoesWork requested before now (Err (Stopped stop))
   does-prefix stop may prefix ledger tree sinks passes = record {
-    performs = is-cut requested _ _ stop (record { found = found; given = given; may = inl may; prefix = inl prefix });
+    performs = inl (record { found = found; given = given; has = inl (may, prefix) });
     ledger = ledger;
     guaranteed_tree = of_found requested files found given (λ nodes v. TreeSuffices v before.tree.guaranteed nodes → stop_blame stop ≡ TheTree → ⊥) tree;
     guaranteed_sinks = of_found requested files found given (λ nodes v. SinksSuffice files v before.out.guaranteed before.err.guaranteed → stop_blame stop ≡ ASink → ⊥)
@@ -102,17 +97,17 @@ halted-looked requested start now out err (Stopped TreeFault) performs other loo
 
 -- the inputs were refused, or could not be read
 pub halted-unready : {B : Type 0} (view : B → Plan) (task : Task) (start now : TreeState) (out err : SinkState) (halt : InquiryHalt Refusal)
-    → Inquires view (plan_of task.command task) start now (Err halt) → DoesWork (Ok task) (host_state start out err) (host_state now out err) (Err (halt_of_inquiry halt))
+    → Inquires view (plan_of task) start now (Err halt) → DoesWork (Ok task) (host_state start out err) (host_state now out err) (Err (halt_of_inquiry halt))
 halted-unready view task start now out err (Denied refusal) asks =
     let looked = inquires-looked view _ start now _ asks in
     halted-looked (Ok task) start now out err (Refused refusal)
     (record { given = plan-refused start.contents task refusal (inquires-gives view _ start now _ asks); same = ap (λ t. world t out.contents err.contents) looked.contents }) (λ is. cc is) looked
 halted-unready view task start now out err TreeFailed asks =
     let looked = inquires-looked view _ start now _ asks in
-    halted-looked (Ok task) start now out err (Stopped TreeFault) (inl (ap (λ t. world t out.contents err.contents) looked.contents)) (λ is. cc is) looked
+    halted-looked (Ok task) start now out err (Stopped TreeFault) (inr (ap (λ t. world t out.contents err.contents) looked.contents)) (λ is. cc is) looked
 halted-unready view task start now out err OutOfMemory asks =
     let looked = inquires-looked view _ start now _ asks in
-    halted-looked (Ok task) start now out err (Stopped NoMemory) (inl (ap (λ t. world t out.contents err.contents) looked.contents)) (λ is. cc is) looked
+    halted-looked (Ok task) start now out err (Stopped NoMemory) (inr (ap (λ t. world t out.contents err.contents) looked.contents)) (λ is. cc is) looked
 
 -- a tree that suffices does so still, once it was looked at
 suffices-still : (verdict : Result Work Refusal) (start here : TreeState) (nodes : Nodes) → TreeLooked false start here
@@ -132,6 +127,16 @@ does-after requested start here out err now r looked does = record {
   refusals = counts-after start here now.tree err now.err looked requested r does.refusals;
   kept = does.kept;
 }
+
+-- the inputs were accepted, and the rest follows
+module _ {B : Type 0} (view : B → Plan) (task : Task) (start here : TreeState) where
+  pub accepted-after : (value : B) → Inquires view (plan_of task) start here (Ok value) → IsPlanned here.contents task (view value)
+  accepted-after value asks =
+      subst (λ t. IsPlanned t task (view value)) (sym (inquires-looked view _ start here _ asks).contents) (inquires-gives view _ start here _ asks)
+
+  pub does-behind : (out err : SinkState) (now : HostState) (r : Result ℕ Halt) (value : B) → Inquires view (plan_of task) start here (Ok value)
+      → DoesWork (Ok task) (host_state here out err) now r → DoesWork (Ok task) (host_state start out err) now r
+  does-behind out err now r value asks does = does-after (Ok task) start here out err now r (inquires-looked view _ start here _ asks) does
 
 -- ---- bytes that are put on the standard output
 
@@ -163,3 +168,9 @@ module _ (task : Task) (tree : TreeState) (out now err : SinkState) (plan : Plan
       go (Err (Stopped NoMemory)) puts = rw puts (does-nothing (Ok task) (host_state tree out err))
       go (Err (Stopped TreeFault)) puts = absurd puts
       go (Err (Refused refusal)) puts = absurd puts
+
+-- a text that is printed
+pub does-prints : (task : Task) (tree : TreeState) (out now err : SinkState) (text : List ℕ) → IsPlanned tree.contents task (text_plan text)
+    → (r : Result ℕ Halt) → Puts out now text 0 r → DoesWork (Ok task) (host_state tree out err) (host_state tree now err) r
+does-prints task tree out now err text planned =
+    does-puts task tree out now err (text_plan text) planned text 0 refl refl tt (λ cut. record { cut = cut.cut; short = λ text. cut.short }) (λ fits. fits)

@@ -25,7 +25,7 @@ module _ (task : Task) (start now : TreeState) (out err : SinkState) (texts : Li
       (λ any. inl wrote.refusals)
   does-write (Err (Refused refusal)) refuses = does-refuse task start (planned (Write texts) included) plan now out err refusal refuses
   does-write (Err (Stopped TreeFault)) (inl looked) =
-      halted-looked (Ok task) start now out err (Stopped TreeFault) (inl (ap (λ t. world t out.contents err.contents) looked.contents)) (λ is. cc is) looked
+      halted-looked (Ok task) start now out err (Stopped TreeFault) (inr (ap (λ t. world t out.contents err.contents) looked.contents)) (λ is. cc is) looked
   does-write (Err (Stopped TreeFault)) (inr half) =
       let short = outside-of-tree (writing texts) true start now out err (written-of-tree texts) half.did in
       does-prefix (Ok task) _ _ (Ok (Write texts)) (plan-accepted start.contents task _ plan half.free) TreeFault tt
@@ -33,5 +33,5 @@ module _ (task : Task) (start now : TreeState) (out err : SinkState) (texts : Li
       (IfSome_then start.contents short.not_guaranteed (λ nodes not suffices e. not suffices)) (λ s e. cc e)
       (λ any. inl half.refusals)
   does-write (Err (Stopped NoMemory)) looked =
-      halted-looked (Ok task) start now out err (Stopped NoMemory) (inl (ap (λ t. world t out.contents err.contents) looked.contents)) (λ is. cc is) looked
+      halted-looked (Ok task) start now out err (Stopped NoMemory) (inr (ap (λ t. world t out.contents err.contents) looked.contents)) (λ is. cc is) looked
   does-write (Err (Stopped SinkFault)) none = absurd none

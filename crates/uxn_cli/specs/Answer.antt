@@ -1,5 +1,5 @@
 -- What a call gives, and what stands where it ends early.
-use Rattle.std.specs.Prelude.{◌≡◌, ◌≢◌, ℕ, ◌≤◌, [], Option, Some, None, Result, Ok, Err, IsSome, ◌⊎◌}
+use Rattle.std.specs.Prelude.{◌≡◌, ◌≢◌, ℕ, ◌≤◌, [], Option, None, Result, Ok, Err, IfOk, IsSome, ◌⊎◌}
 use Rattle.uxn_io_traits.specs.Files.{Nodes}
 use Rattle.uxn_io_traits.specs.Outside.{World, changed_by, IsCutOff}
 use Rattle.uxn_opcodes.specs.declared.Stop.{Stop}
@@ -9,7 +9,6 @@ use Rattle.uxn_arguments.specs.declared.task.Task.{Task}
 use Rattle.uxn_task_files.specs.declared.refusal.Refusal.{Refusal}
 use Rattle.uxn_task_files.specs.declared.refusal.Halt.{Halt}
 use Rattle.uxn_task_files.specs.declared.refusal.Halt.TheVariants.{Refused, Stopped}
-use Rattle.uxn_task_files.specs.Statuses.{early_status}
 use Rattle.uxn_inquiry.specs.Gives.{Gives}
 use Rattle.uxn_cli.specs.Verdict.{Work, Run, Write, Print, RunLine, inquiry_of}
 use Rattle.uxn_cli.specs.Outcome.{Outcome, outcome_of}
@@ -22,18 +21,8 @@ pub record HasOutcome (o : Outcome) (before now : World) (answer : ℕ) : Type 0
 
 -- what a run does beneath a root is not known, where the tree has unknown contents
 abbrev pub HasUnknownContents : Option Nodes → Result Work Refusal → Type 0
-HasUnknownContents (Some nodes) found = ⊥
-HasUnknownContents None (Err refusal) = ⊥
-HasUnknownContents None (Ok (Run job)) = IsSome job.root
-HasUnknownContents None (Ok (Write texts)) = ⊥
-HasUnknownContents None (Ok (Print text)) = ⊥
-HasUnknownContents None (Ok (RunLine job)) = ⊥
-
--- the call ended with the outcome of its verdict; with some exit code, where what the run does is not known
-pub record CallHasEnded (requested : Result Task Refusal) (before now : World) (answer : ℕ) : Type 0 where
-  pub found : Result Work Refusal
-  pub given : Gives before.files (inquiry_of requested) found
-  pub has : HasOutcome (outcome_of before.files found) before now answer ⊎ (HasUnknownContents before.files found × (answer ≤ 127))
+HasUnknownContents None (Ok (Run job)) = IsSome job.task.root
+HasUnknownContents _ _ = ⊥
 
 -- it is refused, and nothing was done yet
 pub record CallIsRefused (requested : Result Task Refusal) (before now : World) (refusal : Refusal) : Type 0 where
@@ -42,7 +31,7 @@ pub record CallIsRefused (requested : Result Task Refusal) (before now : World) 
 
 -- a run takes the names of a folder, at or beneath its root
 pub record ListsFolder (files : Option Nodes) (job : RunJob) : Type 0 where
-  pub root : IsSome job.root
+  pub root : IsSome job.task.root
   pub takes : TraceTakesNames (trace_of files job)
 
 -- what may stop a call in the middle of its changes: a sink where bytes are put on one, the tree where files are written, and
@@ -69,29 +58,29 @@ pub record HasPrefix (found : Result Work Refusal) (before now : World) : Type 0
   pub cut : IsCutOff before now (outcome_of before.files found).changes
   pub short : IsText found → cut.rest ≢ []
 
-pub record HasCut (requested : Result Task Refusal) (before now : World) (stop : Stop) : Type 0 where
+-- all of it was done; or a prefix, by a stop that may come in the middle of it
+abbrev pub HasDone : Result Work Refusal → World → World → Result ℕ Stop → Type 0
+HasDone found before now (Ok answer) = HasOutcome (outcome_of before.files found) before now answer
+HasDone found before now (Err stop) = MayStop before.files found stop × HasPrefix found before now
+
+-- so of the verdict on the call; where what its run does is not known the exit code is some code
+pub record HasDoneWork (requested : Result Task Refusal) (before now : World) (result : Result ℕ Stop) : Type 0 where
   pub found : Result Work Refusal
   pub given : Gives before.files (inquiry_of requested) found
-  pub may : MayStop before.files found stop ⊎ HasUnknownContents before.files found
-  pub prefix : HasPrefix found before now ⊎ HasUnknownContents before.files found
+  pub has : HasDone found before now result ⊎ (HasUnknownContents before.files found × IfOk result (λ answer. answer ≤ 127))
 
--- what stands after a call that ended early: all is as it was, or a prefix of what was to be done was done
-abbrev pub CallIsCut : Result Task Refusal → World → World → Stop → Type 0
-CallIsCut requested before now TreeFault = (now ≡ before) ⊎ HasCut requested before now TreeFault
-CallIsCut requested before now SinkFault = HasCut requested before now SinkFault
-CallIsCut requested before now NoMemory = (now ≡ before) ⊎ HasCut requested before now NoMemory
+-- the tree failed as it was asked, or memory ran out before anything was done
+abbrev pub HasDoneNothing : World → World → Result ℕ Stop → Type 0
+HasDoneNothing before now (Err TreeFault) = now ≡ before
+HasDoneNothing before now (Err NoMemory) = now ≡ before
+HasDoneNothing before now _ = ⊥
 
--- how the work ended
+-- how a call ends
+abbrev pub AnswersCall : Result Task Refusal → World → World → Result ℕ Stop → Type 0
+AnswersCall requested before now result = HasDoneWork requested before now result ⊎ HasDoneNothing before now result
+
+-- how the work ended, where its refusal is not said yet
 abbrev pub Performs : Result Task Refusal → World → World → Result ℕ Halt → Type 0
-Performs requested before now (Ok answer) = CallHasEnded requested before now answer
+Performs requested before now (Ok answer) = AnswersCall requested before now (Ok answer)
 Performs requested before now (Err (Refused refusal)) = CallIsRefused requested before now refusal
-Performs requested before now (Err (Stopped stop)) = CallIsCut requested before now stop
-
--- the answer is that of the verdict's outcome, or says why the call ended early
-pub record EndsEarly (requested : Result Task Refusal) (before now : World) (answer : ℕ) : Type 0 where
-  pub stop : Stop
-  pub status : answer ≡ early_status stop
-  pub stands : CallIsCut requested before now stop
-
-abbrev pub AnswersCall : Result Task Refusal → World → World → ℕ → Type 0
-AnswersCall requested before now answer = CallHasEnded requested before now answer ⊎ EndsEarly requested before now answer
+Performs requested before now (Err (Stopped stop)) = AnswersCall requested before now (Err stop)

@@ -11,7 +11,7 @@ use Rattle.uxn_arguments.specs.declared.task.Task.{Task}
 use Rattle.uxn_task_files.specs.declared.refusal.Refusal.{Refusal}
 use Rattle.uxn_inquiry.specs.Inquiry.{answer_in}
 use Rattle.uxn_cli.specs.Verdict.{Work, inquiry_of}
-use Rattle.uxn_arguments.specs.Places.{outputs_of, command_root}
+use Rattle.uxn_arguments.specs.Options.{outputs_of, root_of}
 use Rattle.uxn_task_files.specs.Statuses.{Status, number, IsEarly}
 use Rattle.uxn_cli.specs.Outcome.{outcome_of}
 
@@ -28,14 +28,10 @@ tree_verdict nodes requested = answer_in nodes (inquiry_of requested)
 abbrev pub EndsWith : Option Nodes → ℕ → Result Work Refusal → Type 0
 EndsWith files code verdict = (work : Work) × (verdict ≡ Ok work) × ((outcome_of files (Ok work)).status ≡ code)
 
--- a line and nothing else was put
-abbrev pub PutsLine : Option (List ℕ) → Option (List ℕ) → Type 0
-PutsLine before now = (text : List ℕ) × (now ≡ extended before (text ++ 10 ∷ []))
-
 -- the path is no file that the task writes, and lies outside its root
 pub record IsAside (task : Task) (path : List ℕ) : Type 0 where
   pub output : list_any (bytes_eq path) (outputs_of task) ≡ false
-  pub outside : suits (command_root task.command task) (Some path) ≡ false
+  pub outside : suits (root_of task) (Some path) ≡ false
 
 -- every path but those of the outputs and those beneath the root has its old node
 abbrev pub KeepsOthers : Result Task Refusal → Option Nodes → Option Nodes → Type 0

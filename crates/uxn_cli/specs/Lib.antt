@@ -14,4 +14,5 @@ pub mod Isolation
 pub mod Workload
 pub mod Call
 pub mod Clauses
+pub mod Truncated
 pub mod Refused

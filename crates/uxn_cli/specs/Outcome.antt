@@ -1,7 +1,7 @@
 -- What a verdict gives: the status, and the changes outside, in order.
-use Rattle.std.specs.Prelude.{ℕ, List, ◌++◌, map, Option, Result, Ok, Err}
+use Rattle.std.specs.Prelude.{◌≡◌, ℕ, List, ◌++◌, map, Option, Result, Ok, Err}
 use Rattle.uxn_io_traits.specs.Files.{Nodes}
-use Rattle.uxn_io_traits.specs.Outside.{Change, ToOut, ToErr}
+use Rattle.uxn_io_traits.specs.Outside.{Change, ToOut, ToErr, World, changed_by}
 use Rattle.uxn_task_files.specs.declared.refusal.Refusal.{Refusal}
 use Rattle.uxn_task_files.specs.Statuses.{status_of}
 use Rattle.uxn_task_files.specs.Lines.{refusal_line}
@@ -29,7 +29,7 @@ reporting report version trace = trace.changes ++ filling_all (report_of report 
 unfoldable pub running : Option Nodes → RunJob → List Change
 running files job =
     creating_all (job_outputs job)
-    ++ (reporting job.report job.script.version (trace_of files job) ++ filling_all (log_texts job.debug (trace_of files job)))
+    ++ (reporting job.task.report job.script.version (trace_of files job) ++ filling_all (log_texts job.debug (trace_of files job)))
 
 -- of machines in a line: the exit code of the last one's run, and what it writes to port 18
 abbrev pub line_exit : LineJob → ℕ
@@ -45,3 +45,9 @@ outcome_of files (Ok (Run job)) = record { status = exit_of files job; changes =
 outcome_of files (Ok (Write texts)) = record { status = 0; changes = writing texts }
 outcome_of files (Ok (Print text)) = record { status = 0; changes = printing text }
 outcome_of files (Ok (RunLine job)) = record { status = line_exit job; changes = printing (line_bytes job) }
+
+-- a status, and the bytes on both outputs, are those of an outcome
+pub record ShowsOutcome (o : Outcome) (before now : World) (answer : ℕ) : Type 0 where
+  pub status : answer ≡ o.status
+  pub out : now.out ≡ (changed_by before o.changes).out
+  pub err : now.err ≡ (changed_by before o.changes).err

@@ -1,18 +1,13 @@
--- What is run: a ROM with a script, each vector of at most so many instructions, beneath a root; its pictures, its samples and its
--- report; and the commands of a debugger that watches it.
-use Rattle.std.specs.Prelude.{ℕ, Bool, unwrap_or, List, map, [], ◌++◌, codes, decimal, Option, Some, None, option_to_list}
+-- What is run: a ROM with a script, as a task asks; and the commands of a debugger that watches it.
+use Rattle.std.specs.Prelude.{ℕ, Bool, unwrap_or, List, map, [], ◌++◌, codes, decimal, Option, Some, None, option_map}
 use Rattle.std.specs.FinMap as nodes_map
 use Rattle.uxn_io_traits.specs.Files.{Nodes}
 use Rattle.file_ports.specs.RootPart.{below, parent_is_folder}
 use Rattle.uxn_opcodes.specs.declared.Core.{Core}
 use Rattle.uxn_opcodes.specs.Rule.{new_core}
-use Rattle.system_port.specs.DebugText.{exit_code_of}
-use Rattle.play_script.specs.declared.script.Clock.{Clock as ScriptClock}
 use Rattle.play_script.specs.declared.script.Version.{Version}
 use Rattle.play_script.specs.declared.script.Version.TheVariants.{First, Second}
 use Rattle.play_script.specs.Scripts.{ScriptView}
-use Rattle.varvara_bus.specs.declared.time.Clock.{Clock}
-use Rattle.varvara_bus.specs.History.{stored}
 use Rattle.varvara_bus.specs.State.{DeviceState, new_state}
 use Rattle.vector_loop.specs.declared.tally.Tally.{Tally}
 use Rattle.vector_loop.specs.State.{State, new_tally}
@@ -23,14 +18,21 @@ use Rattle.vector_loop.specs.Watch.{page_in, moment_of}
 use Rattle.tal_words.specs.declared.name.Label.{Label}
 use Rattle.debug_commands.specs.declared.command.DebugCommand.{DebugCommand}
 use Rattle.uxn_debugger.specs.Log.{Shown, log_of}
+use Rattle.uxn_line.specs.Streams.{clock_by, exit_code_at}
+use Rattle.uxn_arguments.specs.Options.{run_outputs}
+use Rattle.uxn_arguments.specs.declared.task.DebugTask.{DebugTask}
+use Rattle.uxn_arguments.specs.declared.task.RunTask.{RunTask}
 use Rattle.uxn_task_files.specs.World.{Text, requested_output}
 use Rattle.uxn_cli.specs.declared.running.RunEnd.{RunEnd}
 
--- what a debugger does: its commands, the labels that its log names, and the file of the log
+-- what a debugger does: what it is asked, its commands, and the labels that its log names
 pub record Debugging : Type 0 where
+  pub task : DebugTask
   pub commands : List DebugCommand
   pub labels : List Label
-  pub log : Option (List ℕ)
+
+abbrev pub debugging : DebugTask → List DebugCommand → List Label → Debugging
+debugging task commands labels = record { task = task; commands = commands; labels = labels }
 
 -- the folder of a program's own files: its path, where one is given; what lies there and beneath it; and whether its parent is
 -- a folder
@@ -48,34 +50,22 @@ abbrev pub no_root_view : RootView
 no_root_view = root_view_in None None
 
 pub record RunJob : Type 0 where
+  pub task : RunTask
   pub rom : List ℕ
   pub script : ScriptView
-  pub budget : ℕ
-  pub root : Option (List ℕ)
-  pub frames : Option (List ℕ)
-  pub samples : Option (List ℕ)
-  pub report : Option (List ℕ)
   pub debug : Option Debugging
 
--- the files that it writes, in the order of the usage line
-abbrev pub log_paths : Option Debugging → List (List ℕ)
-log_paths None = []
-log_paths (Some debugging) = option_to_list debugging.log
-
+-- the files that it writes, in order
 abbrev pub job_outputs : RunJob → List (List ℕ)
-job_outputs job = log_paths job.debug ++ (option_to_list job.frames ++ option_to_list job.samples ++ option_to_list job.report)
+job_outputs job = run_outputs job.task (option_map (λ debugging. debugging.task) job.debug)
 
 -- the files that it appends to while it runs
 abbrev pub wanted_outputs : Option (List ℕ) → Option (List ℕ) → Outputs
 wanted_outputs frames samples = record { frames = frames; samples = samples }
 
--- the clock of a script is that of the machine
-abbrev pub bus_clock : ScriptClock → Clock
-bus_clock clock = record { seconds = clock.seconds; offset = clock.offset }
-
 -- a new machine, and the reference run from there
 abbrev pub first_devices : ScriptView → RootView → DeviceState
-first_devices script root_view = new_state (bus_clock script.clock) root_view.root root_view.part root_view.parent
+first_devices script root_view = new_state (clock_by script.clock) root_view.root root_view.part root_view.parent
 
 abbrev pub first_state : Core → ScriptView → RootView → State
 first_state core script root_view = record { core = core; devices = first_devices script root_view; tally = new_tally }
@@ -85,18 +75,14 @@ reference_trace budget outputs script root_view core = run budget outputs script
 
 -- that of the ROM, from what lies beneath the root in a tree
 abbrev pub trace_of : Option Nodes → RunJob → Trace
-trace_of files job = reference_trace job.budget (wanted_outputs job.frames job.samples) job.script (root_view_in files job.root) (new_core job.rom)
-
--- the exit code: the low seven bits of port 0f at the end
-abbrev pub state_exit : State → ℕ
-state_exit state = exit_code_of (stored state.devices.history 0x0f)
+trace_of files job = reference_trace job.task.budget (wanted_outputs job.task.frames job.task.samples) job.script (root_view_in files job.task.root) (new_core job.rom)
 
 -- how a run ended, by its last state
 abbrev pub run_end : State → RunEnd
-run_end state = record { exit = state_exit state; tally = state.tally }
+run_end state = record { exit = exit_code_at state; tally = state.tally }
 
 abbrev pub exit_of : Option Nodes → RunJob → ℕ
-exit_of files job = state_exit (trace_of files job).last
+exit_of files job = exit_code_at (trace_of files job).last
 
 -- a line of a report: a word and a number
 abbrev pub report_line : List ℕ → ℕ → List ℕ
@@ -123,7 +109,7 @@ unfoldable pub report_text : Version → ℕ → Tally → List ℕ
 report_text version exit tally = common_lines exit tally ++ further_lines version tally
 
 abbrev pub report_of : Option (List ℕ) → Version → State → List Text
-report_of path version end = requested_output path (report_text version (state_exit end) end.tally)
+report_of path version end = requested_output path (report_text version (exit_code_at end) end.tally)
 
 -- what a debugger is shown of a state, and its log over a whole run
 abbrev pub state_shown : State → Shown
@@ -134,4 +120,4 @@ log_text debugging trace = log_of debugging.labels (map state_shown trace.moment
 
 abbrev pub log_texts : Option Debugging → Trace → List Text
 log_texts None trace = []
-log_texts (Some debugging) trace = requested_output debugging.log (log_text debugging trace)
+log_texts (Some debugging) trace = requested_output (Some debugging.task.log) (log_text debugging trace)

@@ -17,9 +17,7 @@ use Rattle.vector_loop.specs.Outputs.{IsOutput}
 use Rattle.vector_loop.specs.Trace.{Trace}
 use Rattle.vector_loop.specs.Watch.{Page, page_in, moment_of, shown_all}
 use Rattle.vector_loop.specs.declared.watch.Moment.{Moment}
-use Rattle.uxn_arguments.specs.Tasks.{role_path}
-use Rattle.uxn_arguments.specs.declared.role.Role.TheVariants as role
-use Rattle.uxn_arguments.specs.declared.task.Task.{Task}
+use Rattle.uxn_arguments.specs.declared.task.RunTask.{RunTask}
 use Rattle.uxn_cli.specs.RunJob.{Debugging, RootView, wanted_outputs, reference_trace, run_end, log_texts}
 use Rattle.uxn_task_files.specs.Writing.{filling_all}
 use Rattle.uxn_cli.specs.Outcome.{reporting}
@@ -32,28 +30,28 @@ abbrev pub AtRootView : Option (List ℕ) → Option Nodes → (RootView → Typ
 AtRootView root tree P = (root_view : RootView) → root_view.root ≡ root → HasFiles tree root_view.root root_view.part root_view.parent → P root_view
 
 -- how the machine of a task is run
-abbrev pub task_settings : Task → Settings
-task_settings task = record { outputs = wanted_outputs (role_path task role.Frames) (role_path task role.Samples); budget = task.budget }
+abbrev pub task_settings : RunTask → Settings
+task_settings task = record { outputs = wanted_outputs task.frames task.samples; budget = task.budget }
 
 -- the run of a machine, from the folder of the program's own files
 abbrev pub machine_trace : Settings → Machine → RootView → Trace
 machine_trace settings machine root_view = reference_trace settings.budget settings.outputs machine.script root_view machine.core
 
-abbrev pub task_trace : Task → Machine → RootView → Trace
+abbrev pub task_trace : RunTask → Machine → RootView → Trace
 task_trace task machine = machine_trace (task_settings task) machine
 
 -- what is done by a run, its report, and the log of a debugger
-abbrev pub reported_changes : Task → Machine → Trace → List Change
-reported_changes task machine trace = reporting (role_path task role.Report) machine.script.version trace
+abbrev pub reported_changes : RunTask → Machine → Trace → List Change
+reported_changes task machine trace = reporting task.report machine.script.version trace
 
-abbrev pub logged_changes : Task → Machine → Option Debugging → Trace → List Change
+abbrev pub logged_changes : RunTask → Machine → Option Debugging → Trace → List Change
 logged_changes task machine debug trace = reported_changes task machine trace ++ filling_all (log_texts debug trace)
 
 -- the outputs of a run are files outside its root
-pub record RunFiles (task : Task) (tree : Option Nodes) : Type 0 where
-  pub frames : IfSome (role_path task role.Frames) (IsOutput (role_path task role.Root) tree)
-  pub samples : IfSome (role_path task role.Samples) (IsOutput (role_path task role.Root) tree)
-  pub report : IfSome (role_path task role.Report) (IsOutput (role_path task role.Root) tree)
+pub record RunFiles (task : RunTask) (tree : Option Nodes) : Type 0 where
+  pub frames : IfSome task.frames (IsOutput task.root tree)
+  pub samples : IfSome task.samples (IsOutput task.root tree)
+  pub report : IfSome task.report (IsOutput task.root tree)
 
 -- who is to blame for a stop, if it stopped
 abbrev pub blame_if : {A : Type 0} → Result A Stop → Option Blame

@@ -3,18 +3,17 @@ ghost use Rattle.uxn_io_traits.specs.Ended.{RefusesNone};
 ghost use Rattle.std.specs.Prelude.{◌≡◌, ◌≤◌, List, None, Some, IfSome, ◌<◌, Option, IsSome};
 ghost use Rattle.uxn_cli.specs.Outside.{SameHost, outside_of};
 ghost use Rattle.uxn_debugger.specs.Watching.{held_by, new_watching};
-ghost use Rattle.uxn_cli.specs.Verdict.{debugging};
+ghost use Rattle.uxn_cli.specs.RunJob.{debugging};
 ghost use Rattle.vector_loop.specs.Outputs.{IsOutput};
 ghost use Rattle.uxn_cli.specs.Prepared.{AreNew};
 ghost use Rattle.uxn_cli.specs.RunsFromRoot.{RunsFromRoot, RunFiles, task_trace, logged_changes};
-ghost use Rattle.uxn_arguments.specs.Tasks.{role_path};
 
 use super::host::Host;
 use super::machine::{Machine, core_known};
 use super::running::{RunEnd, run_made, write_text};
 use debug_commands::DebugCommand;
 use tal_words::Label;
-use uxn_arguments::{Role, Task};
+use uxn_arguments::{DebugTask, RunTask};
 use uxn_debugger::{Debugger, the_log_is_that_of_the_run};
 use uxn_io_traits::{Sink, Tree};
 use uxn_opcodes::Stop;
@@ -24,6 +23,8 @@ use vector_loop::the_moments_of_a_run_are_counted;
 /// What a debugger does with a run.
 #[derive(Drop)]
 pub struct Session {
+    /// What it is asked.
+    pub task: DebugTask,
     /// The commands.
     pub commands: Vec<DebugCommand>,
     /// The labels of a symbol file, where one is given.
@@ -34,20 +35,21 @@ pub struct Session {
 
 /// Runs a machine under a debugger, and writes the report and the log.
 pub fn debug_made<T: Tree, O: Sink, E: Sink>(
-    task: &Task,
+    task: &RunTask,
+    debug: &DebugTask,
     machine: Machine,
     debugger: &mut Debugger<'_>,
     host: &mut Host<'_, '_, '_, T, O, E>,
 ) -> Result<RunEnd, Stop>
-    requires devices { AreNew machine.devices machine.script (role_path task.now Role.Root) }
+    requires devices { AreNew machine.devices machine.script task.now.root }
     requires budget { 1 ≤ task.now.budget }
     requires files { RunFiles task.now (T.state host.old.tree.now).contents }
-    requires log { IfSome (role_path task.now Role.Log) (IsOutput (role_path task.now Role.Root) (T.state host.old.tree.now).contents) }
+    requires log { IsOutput task.now.root (T.state host.old.tree.now).contents debug.now.log }
     ensures runs { (commands : List DebugCommand) (labels : List Label) → held_by debugger.old ≡ new_watching commands labels
-        → RunsFromRoot (role_path task.now Role.Root) (task_trace task.now machine) (logged_changes task.now machine (Some (debugging task.now commands labels)))
-        (IsSome (Some (debugging task.now commands labels)))
+        → RunsFromRoot task.now.root (task_trace task.now machine) (logged_changes task.now machine (Some (debugging debug.now commands labels)))
+        (IsSome (Some (debugging debug.now commands labels)))
         (outside_of T.Tree O.Sink E.Sink host.old) (outside_of T.Tree O.Sink E.Sink host.new) result }
-    ensures refusals { role_path task.now Role.Root ≡ None → RefusesNone (T.state host.old.tree.now) (T.state host.new.tree.now) }
+    ensures refusals { task.now.root ≡ None → RefusesNone (T.state host.old.tree.now) (T.state host.new.tree.now) }
     ensures same { SameHost host.old host.new }
 {
     the_log_is_that_of_the_run();
@@ -55,7 +57,7 @@ pub fn debug_made<T: Tree, O: Sink, E: Sink>(
     the_moments_of_a_run_are_in_a_row();
     core_known(&machine.core);
     let end = run_made(task, machine, host, debugger)?;
-    write_text(&task.path(Role::Log), debugger.log(), host.tree)
+    write_text(&Some(debug.log), debugger.log(), host.tree)
         .and(Ok(end))
         .or(Err(Stop::TreeFault))
 }

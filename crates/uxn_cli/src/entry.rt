@@ -4,7 +4,7 @@ ghost use Rattle.uxn_task_files.specs.Request.{request};
 ghost use Rattle.uxn_task_files.specs.Blame.{as_step};
 ghost use Rattle.uxn_task_files.specs.Statuses.{early_status};
 ghost use Rattle.uxn_cli.specs.Call.{call, call_on};
-ghost use Rattle.uxn_cli.specs.Clauses.{HasItsOutcome, LeavesTheRest, HasStatuses, EndsEarlyByFaults, IsCutShort, GivesTheSame, FailsNotWhereGuaranteed};
+ghost use Rattle.uxn_cli.specs.Clauses.{HasItsOutcome, LeavesTheRest, HasStatuses, EndsEarlyByFaults, GivesTheSame, FailsNotWhereGuaranteed};
 ghost use Rattle.uxn_cli.specs.Clauses.{ComesOut};
 ghost use Rattle.uxn_cli.specs.Outside.{DoesWork, SameHost, state_of_host};
 ghost use Rattle.uxn_cli.specs.Refused.{PassesNoneOver};
@@ -109,22 +109,23 @@ pub fn uxn<T: Tree, O: Sink, E: Sink>(
     // a tree of unknown contents a run ends with some exit code.
     ensures outcome { HasItsOutcome (call T.Tree O.Sink E.Sink words.now tree.old out.old err.old tree.new out.new err.new result) }
 
-    // What stands as before: every path that is no output and lies outside the root; after a refusal all but its one line.
+    // What stands as before: every path that is no output and lies outside the root. A refusal changes nothing, and
+    // puts one line (`a_refusal_only_puts_its_line`).
     ensures rest { LeavesTheRest (call T.Tree O.Sink E.Sink words.now tree.old out.old err.old tree.new out.new err.new result) }
 
     // When the call is refused for each reason, of which two depend on the words alone, and when it ends with its exit code.
     ensures statuses { HasStatuses (call T.Tree O.Sink E.Sink words.now tree.old out.old err.old tree.new out.new err.new result) }
 
-    // When it ends early: a fault is answered exactly where a count rose in this call, and memory runs out before anything
-    // is done, but where a debugger watches the run or it takes the names of a folder.
+    // When it ends early: a fault is answered exactly where a count rose in this call (`a_fault_raises_a_count`,
+    // `accepted_work_is_complete`), and memory runs out before anything is done, but where a debugger watches the run or it
+    // takes the names of a folder (`out_of_memory_changes_nothing`). A prefix of the outcome's changes stands then
+    // (`an_early_end_leaves_a_prefix`), so each output, and each file that is written, has a prefix of what the outcome
+    // gives it (`an_early_end_leaves_prefixes`).
     ensures early { EndsEarlyByFaults (call T.Tree O.Sink E.Sink words.now tree.old out.old err.old tree.new out.new err.new result) }
 
-    // What stands after an early end: one of the cut outcomes, so each output, and each file that is written, has a prefix
-    // of what the outcome gives it.
-    ensures cut_off { IsCutShort (call T.Tree O.Sink E.Sink words.now tree.old out.old err.old tree.new out.new err.new result) }
-
-    // What other calls give the same: `play` with the items of a `debug`, but for the log; and the same words over every
-    // other tree that replies the same to what is asked of it and, where a program runs, is the same beneath its root.
+    // What gives the same: the same words over every other tree that replies the same to what is asked of it and, where a
+    // program runs, is the same beneath its root. So does `play` with the items of a `debug`, but for the log
+    // (`debug_gives_what_play_gives`).
     ensures same { GivesTheSame (call T.Tree O.Sink E.Sink words.now tree.old out.old err.old tree.new out.new err.new result) }
 
     // Where the tree and the sinks are guaranteed to take what the verdict asks of them, none of them fails.

@@ -19,7 +19,6 @@ use std::alloc::{AllocError, Global};
 use tal_assembly::SourceFault;
 use tal_rom::{Assembly, assemble};
 use tal_words::AsmStop;
-use uxn_arguments::Task;
 use uxn_inquiry::Halt;
 use uxn_io::MemTree;
 use uxn_task_files::{Refusal, validate_script};
@@ -119,10 +118,10 @@ fn assembly_of(alloc: Global, source: &[u8]) -> Result<Assembly, Halt<Refusal>>
 
 /// The summary of a workload.
 #[inline(never)]
-pub fn summarize(alloc: Global, task: &Task) -> Result<Vec<u8>, Halt<Refusal>>
-    ensures { Says (λ text. text.items) (accepted_summary task.now.count) result }
+pub fn summarize(alloc: Global, count: u16) -> Result<Vec<u8>, Halt<Refusal>>
+    ensures { Says (λ text. text.items) (accepted_summary count) result }
 {
-    let text = source(alloc, task.count)?;
+    let text = source(alloc, count)?;
     let assembly = assembly_of(alloc, &text)?;
     let script = validate_script(alloc, SCRIPT)?;
     let summary = run_workload(alloc, &text, assembly.rom(), script)?;

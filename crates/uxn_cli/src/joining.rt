@@ -10,24 +10,23 @@ ghost use Rattle.uxn_inquiry.specs.Inquires.{Inquires};
 
 use setup_lines::Turns;
 use std::alloc::Global;
-use uxn_arguments::Task;
 use uxn_inquiry::Halt as InquiryHalt;
-use uxn_io_traits::{Failed, Sink, Tree};
+use uxn_io_traits::{Failed, Path, Sink, Tree};
 use uxn_line::{Line, are_of_console};
 use uxn_opcodes::Stop;
 use uxn_task_files::{Halt, LineInputs, Refusal, read_machines};
 
-/// The machines of the setup of a task, where they can be run in a line.
+/// The machines of the setup at a path, where they can be run in a line.
 #[inline(never)]
 pub fn join_up<T: Tree>(
     alloc: Global,
-    task: &Task,
+    path: &Path,
     tree: &mut T,
 ) -> Result<LineInputs, InquiryHalt<Refusal>>
-    ensures joins { Inquires joined_plan (line_plan_of task.now) (T.state tree.old) (T.state tree.new) result }
+    ensures joins { Inquires joined_plan (line_plan_of path.now) (T.state tree.old) (T.state tree.new) result }
     ensures runs { IfOk result IsRunnable }
 {
-    let inputs = read_machines(alloc, task, tree)?;
+    let inputs = read_machines(alloc, path, tree)?;
     if !are_of_console(inputs.script.events()) {
         return Err(InquiryHalt::Refused(Refusal::OtherEvents));
     }

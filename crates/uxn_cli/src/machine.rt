@@ -3,7 +3,7 @@ ghost use Rattle.std.specs.Prelude.{◌≡◌, ◌≤◌, length, IfOk};
 ghost use Rattle.uxn_memory.specs.Bytes.{largest_rom};
 ghost use Rattle.uxn_opcodes.specs.Rule.{new_core};
 ghost use Rattle.uxn_undo.specs.Row.{IsMachine};
-ghost use Rattle.uxn_cli.specs.RunJob.{bus_clock};
+ghost use Rattle.uxn_line.specs.Streams.{clock_by};
 ghost use Rattle.uxn_cli.specs.Prepared.{AreNew};
 
 use play_script::Script;
@@ -34,7 +34,7 @@ pub fn core_known(core: &Core)
 
 /// The clock of a machine that is given a script.
 fn clock_of(script: &Script) -> Clock
-    ensures { result ≡ bus_clock script.now.clock }
+    ensures { result ≡ clock_by script.now.clock }
 {
     let clock = script.clock();
     Clock {

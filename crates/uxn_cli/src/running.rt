@@ -9,13 +9,12 @@ ghost use Rattle.uxn_task_files.specs.Writing.{filling_all};
 ghost use Rattle.uxn_cli.specs.Prepared.{AreNew};
 ghost use Rattle.uxn_io_traits.specs.Ended.{RefusesNone, TreeEnded};
 ghost use Rattle.uxn_cli.specs.RunsFromRoot.{AtRootView, RunsFromRoot, RunFiles, WasShown, task_settings, machine_trace, task_trace, reported_changes};
-ghost use Rattle.uxn_arguments.specs.Tasks.{role_path};
 
 use super::host::Host;
 use super::machine::Machine;
 use super::report::report;
 use system_port::exit_code;
-use uxn_arguments::{Role, Task};
+use uxn_arguments::RunTask;
 use uxn_io_traits::{Failed, Path, Sink, Tree, append_all};
 use uxn_opcodes::Stop;
 use varvara_bus::Bus;
@@ -89,13 +88,13 @@ pub fn write_text<T: Tree>(path: &Option<Path>, text: &[u8], tree: &mut T) -> Re
 }
 
 /// How a task's machine is run.
-fn settings_of(task: &Task) -> Settings
+fn settings_of(task: &RunTask) -> Settings
     ensures { result ≡ task_settings task.now }
 {
     Settings {
         outputs: Outputs {
-            frames: task.path(Role::Frames),
-            samples: task.path(Role::Samples),
+            frames: task.frames,
+            samples: task.samples,
         },
         budget: task.budget,
     }
@@ -103,27 +102,27 @@ fn settings_of(task: &Task) -> Settings
 
 /// Runs a machine that is ready, and writes the report.
 pub fn run_made<T: Tree, O: Sink, E: Sink, W: Watcher>(
-    task: &Task,
+    task: &RunTask,
     machine: Machine,
     host: &mut Host<'_, '_, '_, T, O, E>,
     watcher: &mut W,
 ) -> Result<RunEnd, Stop>
-    requires devices { AreNew machine.devices machine.script (role_path task.now Role.Root) }
+    requires devices { AreNew machine.devices machine.script task.now.root }
     requires budget { 1 ≤ task.now.budget }
     requires files { RunFiles task.now (T.state host.old.tree.now).contents }
-    ensures runs { RunsFromRoot (role_path task.now Role.Root) (task_trace task.now machine) (reported_changes task.now machine) (MayRefuse W.may_refuse)
+    ensures runs { RunsFromRoot task.now.root (task_trace task.now machine) (reported_changes task.now machine) (MayRefuse W.may_refuse)
         (outside_of T.Tree O.Sink E.Sink host.old) (outside_of T.Tree O.Sink E.Sink host.new) result }
-    ensures watcher { AtRootView (role_path task.now Role.Root) (T.state host.old.tree.now).contents (λ root_view. OnOk result
+    ensures watcher { AtRootView task.now.root (T.state host.old.tree.now).contents (λ root_view. OnOk result
         (WasShown W.shown W.ended (W.held watcher.old)
         (task_trace task.now machine root_view) (W.held watcher.new))) }
-    ensures refusals { role_path task.now Role.Root ≡ None → RefusesNone (T.state host.old.tree.now) (T.state host.new.tree.now) }
+    ensures refusals { task.now.root ≡ None → RefusesNone (T.state host.old.tree.now) (T.state host.new.tree.now) }
     ensures same { SameHost host.old host.new }
 {
     let mut machine = machine;
     let version = machine.script.version();
     let end = run_machine(&mut machine, &settings_of(task), host, watcher)?;
     let text = report(version, end.exit, &end.tally);
-    write_text(&task.path(Role::Report), &text, host.tree)
+    write_text(&task.report, &text, host.tree)
         .and(Ok(end))
         .or(Err(Stop::TreeFault))
 }

@@ -23,12 +23,16 @@ pub use Rattle.uxn_io_traits.specs.Taking.{TreeTakes, files_made}
 pub use Rattle.uxn_io_traits.specs.declared.trees.FileBytes.{FileBytes}
 pub use Rattle.uxn_memory.specs.Bytes.{largest_rom}
 pub use Rattle.uxn_opcodes.specs.declared.Stop.TheVariants.{NoMemory, SinkFault, TreeFault}
-pub use Rattle.uxn_arguments.specs.Places.{command_inputs, meets, command_outputs, outputs_of, command_root}
+pub use Rattle.uxn_arguments.specs.Options.{inputs_of, outputs_of, root_of}
+pub use Rattle.uxn_arguments.specs.Places.{meets}
+pub use Rattle.uxn_arguments.specs.Values.{then_steps}
 unfoldable pub use Rattle.uxn_arguments.specs.Places.{clashes}
-pub use Rattle.uxn_arguments.specs.Tasks.{role_path}
+pub use Rattle.uxn_arguments.specs.declared.task.AssembleTask.{AssembleTask}
+pub use Rattle.uxn_arguments.specs.declared.task.DebugTask.{DebugTask}
+pub use Rattle.uxn_arguments.specs.declared.task.DisassembleTask.{DisassembleTask}
+pub use Rattle.uxn_arguments.specs.declared.task.RunTask.{RunTask}
 pub use Rattle.uxn_arguments.specs.declared.task.Task.{Task}
-pub use Rattle.uxn_arguments.specs.declared.words.Command.{Command}
-pub use Rattle.uxn_arguments.specs.declared.words.Command.TheVariants.{Assemble, Debug, Disassemble, Generate, Line, Play}
+pub use Rattle.uxn_arguments.specs.declared.task.Task.TheVariants.{Assemble}
 pub use Rattle.uxn_task_files.specs.Outputs.{paths_of, observed_text, observed_texts}
 unfoldable pub use Rattle.uxn_task_files.specs.Request.{request}
 pub use Rattle.uxn_task_files.specs.Writing.{Did, creating_all, filling_all}
@@ -52,4 +56,4 @@ unfoldable pub use Rattle.uxn_task_files.specs.Inputs.{text_of, requested_text}
 pub use Rattle.uxn_task_files.specs.Made.{AreApart, AreFree, EndsMaking, HalfDone, IsUnmade, Made, Refuses, WroteTexts}
 pub use Rattle.uxn_task_files.specs.World.{AreFiles, Text, text_paths, with_empty}
 unfoldable pub use Rattle.uxn_task_files.specs.World.{CanMake}
-pub use Rattle.uxn_task_files.specs.Request.{apart, refused, then_requests}
+pub use Rattle.uxn_task_files.specs.Request.{apart, refused}

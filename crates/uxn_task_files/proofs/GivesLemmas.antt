@@ -1,6 +1,6 @@
 -- No refusal of an input is one that the words alone decide; and the files that are written out of a source are the outputs of a task.
 use Rattle.uxn_task_files.proofs.Common.{Err, List, Ok, Option, Some, None, Result, [], arith, map, ℕ, ◌∷◌, ◌++◌, ◌≡◌, common_steps, map-append, Bool, true, false}
-use Rattle.uxn_task_files.proofs.Common.{command_outputs, Task, Command, Assemble, SourceFiles, output_texts, Text, text_paths, Refusal, Label, Sourced}
+use Rattle.uxn_task_files.proofs.Common.{outputs_of, RunTask, DebugTask, AssembleTask, DisassembleTask, Assemble, SourceFiles, output_texts, Text, text_paths, Refusal, Label, Sourced}
 use Rattle.uxn_task_files.proofs.Common.{Inquiry, Answer, and_then, gather, free_outputs, SetupView}
 unfoldable use Rattle.uxn_task_files.proofs.Common.{text_of, requested_text, source_of, program_of, symbols_of, script_of, commands_of, setup_of, machine_of}
 unfoldable use Rattle.uxn_task_files.proofs.Common.{run_of, files_of, disassembly_of, machines_in, machines_of, free_output}
@@ -91,13 +91,13 @@ gather-asked ask done (path ∷ paths) each = asked-then _ (ask path) _ (each pa
 
 -- ---- what a command is given
 
-pub run-asked : (c : Command) (task : Task) → IsAsked (run_of c task)
+pub run-asked : (run : RunTask) (debug : Option DebugTask) → IsAsked (run_of run debug)
 unfolding run_of
-run-asked c task =
+run-asked run debug =
     asked-then _ _ _ (program-asked _ _) (λ program. asked-then _ _ _ (symbols-asked _) (λ labels. asked-then _ _ _ (script-asked _) (λ script.
     asked-then _ _ _ (commands-asked _ _) (λ commands. tt))))
 
-pub disassembly-asked : (task : Task) → IsAsked (disassembly_of task)
+pub disassembly-asked : (task : DisassembleTask) → IsAsked (disassembly_of task)
 unfolding disassembly_of
 disassembly-asked task = asked-then _ _ _ (text-asked _ _) (λ rom. asked-then _ _ _ (symbols-asked _) (λ given. tt))
 
@@ -111,15 +111,15 @@ setup-asked : (path : List ℕ) → IsAsked (setup_of path)
 unfolding setup_of
 setup-asked path = asked-then _ (text_of kinds.Setup path) _ (text-asked kinds.Setup path) (λ text. grind arith)
 
-pub machines-asked : (task : Task) → IsAsked (machines_of task)
+pub machines-asked : (path : List ℕ) → IsAsked (machines_of path)
 unfolding machines_of
-machines-asked task = asked-then _ (setup_of task.file) machines_in (setup-asked task.file) machines-in-asked
+machines-asked path = asked-then _ (setup_of path) machines_in (setup-asked path) machines-in-asked
 
 -- the files that are written out of a source are the outputs of its task
-paths-output_texts : (task : Task) (source : List ℕ) → map (λ (t : Text). t.path) (output_texts task source) ≡ command_outputs Assemble task
+paths-output_texts : (task : AssembleTask) (source : List ℕ) → map (λ (t : Text). t.path) (output_texts task source) ≡ outputs_of (Assemble task)
 paths-output_texts task source = grind (arith, common_steps, map-append)
 
-pub files-asked : (task : Task) → AsksFor (λ (files : SourceFiles). text_paths files.texts ≡ command_outputs Assemble task) (files_of task)
+pub files-asked : (task : AssembleTask) → AsksFor (λ (files : SourceFiles). text_paths files.texts ≡ outputs_of (Assemble task)) (files_of task)
 unfolding files_of
 files-asked task = asked-then _ _ _ (source-asked task.file) (λ source. paths-output_texts task source.text)
 

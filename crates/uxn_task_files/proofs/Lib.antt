@@ -1,4 +1,5 @@
 pub mod Common
+pub mod StepLemmas
 pub mod WordLemmas
 pub mod GivesLemmas
 pub mod OutputLemmas

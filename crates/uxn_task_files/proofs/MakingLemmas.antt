@@ -2,7 +2,7 @@
 use Rattle.uxn_task_files.proofs.Common.{Err, Ok, IfSome, IsSome, List, None, Option, Some, [], ap, arith, bytes_eq, false, find, inl, inr, option_map}
 use Rattle.uxn_task_files.proofs.Common.{option_to_list, refl, subst, sym, true, ℕ, ◌∙◌, ◌∷◌, ◌≡◌, common_steps, All-head, All-tail, bytes_eq-Decides, list_any}
 use Rattle.uxn_task_files.proofs.Common.{with_created, TreeEnded, TreeLooked, contents_after, Nodes, file_at, Change, TreeState}
-use Rattle.uxn_task_files.proofs.Common.{clashes, command_inputs, outputs_of, command_root, AreApart, AreFree, EndsMaking, HalfDone, IsUnmade}
+use Rattle.uxn_task_files.proofs.Common.{clashes, inputs_of, outputs_of, root_of, AreApart, AreFree, EndsMaking, HalfDone, IsUnmade}
 use Rattle.uxn_task_files.proofs.Common.{Made, WroteTexts, Refuses, paths_of, observed_texts, AreFiles, CanMake, Text, text_paths, with_empty, Did, creating_all, writing}
 use Rattle.uxn_task_files.proofs.Common.{Output, Gives, Inquires, free_outputs, Refusal}
 use Rattle.uxn_inquiry.specs.declared.halt.Halt.{Halt as InquiryHalt}
@@ -64,11 +64,11 @@ module _ (outputs : List Output) (apart : AreApart (paths_of outputs)) (included
   can_make = subst (λ t. IfSome t (CanMake (observed_texts outputs))) (sym looked.contents) (go start.contents free)
     where
       inputs : List (List ℕ)
-      inputs = command_inputs apart.task.command apart.task
+      inputs = inputs_of apart.task
 
       no_clash : find (clashes inputs (text_paths (observed_texts outputs))) (text_paths (observed_texts outputs)) ≡ None
       no_clash =
-          rw (observed_paths outputs, apart.outputs) (no_clash-fewer inputs (option_to_list (command_root apart.task.command apart.task)) (outputs_of apart.task) (outputs_of apart.task) apart.apart)
+          rw (observed_paths outputs, apart.outputs) (no_clash-fewer inputs (option_to_list (root_of apart.task)) (outputs_of apart.task) (outputs_of apart.task) apart.apart)
 
       go : (t : Option Nodes) → AreFree t included (paths_of outputs) → IfSome t (CanMake (observed_texts outputs))
       go None free = tt

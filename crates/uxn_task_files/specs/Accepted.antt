@@ -1,6 +1,7 @@
 -- What is asked for each input of a task, and what it says; then for all of them, in the order of work: the first that is not accepted
 -- counts, and nothing is asked behind it.
-use Rattle.std.specs.Prelude.{ℕ, Bool, true, false, not, ◌&&◌, if◌then◌else◌, List, [], ◌∷◌, ◌++◌, Option, Some, None, unwrap_or, Result, Ok, Err}
+use Rattle.std.specs.Prelude.{ℕ, Bool, true, false, not, ◌&&◌, if◌then◌else◌, List, [], ◌∷◌, ◌++◌, Option, Some, None, option_map, option_and_then, unwrap_or}
+use Rattle.std.specs.Prelude.{Result, Ok, Err}
 use Rattle.std.specs.List.{list_any}
 use Rattle.std.specs.Str.{bytes_eq}
 use Rattle.debug_commands.specs.declared.command.DebugCommand.{DebugCommand}
@@ -17,17 +18,18 @@ use Rattle.tal_assembly.specs.Sources.{Sourced, source_inquiry}
 use Rattle.tal_symbols.specs.Reading.{symbols_in}
 use Rattle.tal_symbols.specs.SymbolFile.{symbol_file}
 use Rattle.tal_words.specs.declared.name.Label.{Label}
-use Rattle.uxn_arguments.specs.declared.words.Command.{Command}
-use Rattle.uxn_arguments.specs.declared.words.Command.TheVariants.{Debug, Disassemble}
+use Rattle.uxn_arguments.specs.Values.{then_steps}
+use Rattle.uxn_arguments.specs.declared.task.AssembleTask.{AssembleTask}
+use Rattle.uxn_arguments.specs.declared.task.DebugTask.{DebugTask}
+use Rattle.uxn_arguments.specs.declared.task.DisassembleTask.{DisassembleTask}
+use Rattle.uxn_arguments.specs.declared.task.RunTask.{RunTask}
 use Rattle.uxn_arguments.specs.declared.task.Task.{Task}
-use Rattle.uxn_arguments.specs.declared.role.Role.TheVariants as role
-use Rattle.uxn_arguments.specs.Tasks.{role_path}
+use Rattle.uxn_arguments.specs.declared.task.Task.TheVariants.{Run, Assemble}
 use Rattle.uxn_inquiry.specs.Inquiry.{Inquiry, Answer, and_then, gather, creatable, refused_as, result_as}
 use Rattle.uxn_task_files.specs.declared.inputs.InputKind.TheVariants as kinds
 use Rattle.uxn_task_files.specs.declared.refusal.Refusal.{Refusal}
 use Rattle.uxn_task_files.specs.declared.refusal.Refusal.TheVariants.{Faulty, BadSymbols, BadScript, BadCommands, BadSetup, NoOutput}
 use Rattle.uxn_task_files.specs.Inputs.{text_of, requested_text}
-use Rattle.uxn_task_files.specs.Request.{then_requests}
 use Rattle.uxn_task_files.specs.World.{Text, requested_output}
 
 -- a source that has no fault, nor has a file that it includes (131): the text that is assembled, and the paths of the files that it
@@ -66,7 +68,7 @@ script_of path = and_then (requested_text kinds.Script path) (λ text. Answer (s
 -- the labels of a symbol file that has no fault (134), where one is given
 abbrev pub said_symbols : Option (List ℕ) → Result (Option (List Label)) Refusal
 said_symbols None = Ok None
-said_symbols (Some text) = then_requests (result_as (λ bad. BadSymbols bad.entry bad.kind) (symbols_in text)) (λ labels. Ok (Some labels))
+said_symbols (Some text) = then_steps (result_as (λ bad. BadSymbols bad.entry bad.kind) (symbols_in text)) (λ labels. Ok (Some labels))
 
 unfoldable pub symbols_of : Option (List ℕ) → Inquiry (Result (Option (List Label)) Refusal)
 symbols_of path = and_then (requested_text kinds.Symbols path) (λ text. Answer (said_symbols text))
@@ -92,15 +94,12 @@ machine_of path = and_then (source_of path) (λ source. Answer (Ok (rom_of sourc
 
 -- ---- the inputs of each command, in the order of work
 
--- the symbol file and the commands are inputs of a debugger, the symbol file of `dis` too
-abbrev pub symbols_input : Command → Task → Option (List ℕ)
-symbols_input Debug task = role_path task role.Symbols
-symbols_input Disassemble task = role_path task role.Symbols
-symbols_input _ task = None
+-- the symbol file and the commands are inputs of a debugger
+abbrev pub symbols_input : Option DebugTask → Option (List ℕ)
+symbols_input debug = option_and_then (λ debug. debug.symbols) debug
 
-abbrev pub commands_input : Command → Task → Option (List ℕ)
-commands_input Debug task = role_path task role.Commands
-commands_input _ task = None
+abbrev pub commands_input : Option DebugTask → Option (List ℕ)
+commands_input debug = option_map (λ debug. debug.commands) debug
 
 -- what a run is given: its program, the labels of a symbol file where one is given, its script, and the commands of a debugger
 pub record GivenInputs : Type 0 where
@@ -113,36 +112,36 @@ pub record GivenInputs : Type 0 where
 abbrev pub debug_labels : Option (List Label) → Loaded → List Label
 debug_labels given program = unwrap_or given program.labels
 
--- `play` and `debug`
-unfoldable pub run_of : Command → Task → Inquiry (Result GivenInputs Refusal)
-run_of c task =
-    and_then (program_of task.rom task.file) (λ program.
-    and_then (symbols_of (symbols_input c task)) (λ labels.
-    and_then (script_of (role_path task role.Script)) (λ script.
-    and_then (commands_of (debug_labels labels program) (commands_input c task)) (λ commands.
+-- `play`, and `debug` with a debugger
+unfoldable pub run_of : RunTask → Option DebugTask → Inquiry (Result GivenInputs Refusal)
+run_of run debug =
+    and_then (program_of run.rom run.file) (λ program.
+    and_then (symbols_of (symbols_input debug)) (λ labels.
+    and_then (script_of run.script) (λ script.
+    and_then (commands_of (debug_labels labels program) (commands_input debug)) (λ commands.
     Answer (Ok (record { program = program; labels = labels; script = script; commands = commands }))))))
 
 -- `asm`: a source's ROM, symbols and listing, in the files that are requested; with the files that it includes
 abbrev pub program_in : List ℕ → Program
 program_in source = record { rom = rom_of source; places = (layout source).words; labels = (layout source).labels }
 
-abbrev pub output_texts : Task → List ℕ → List Text
+abbrev pub output_texts : AssembleTask → List ℕ → List Text
 output_texts task source =
-    requested_output (role_path task role.Out) (rom_of source) ++ requested_output (role_path task role.Symbols) (symbol_file (layout source).labels)
-    ++ requested_output (role_path task role.Listing) (listing_of source (program_in source))
+    requested_output (Some task.out) (rom_of source) ++ requested_output task.symbols (symbol_file (layout source).labels)
+    ++ requested_output task.listing (listing_of source (program_in source))
 
 pub record SourceFiles : Type 0 where
   pub texts : List Text
   pub included : List (List ℕ)
 
-unfoldable pub files_of : Task → Inquiry (Result SourceFiles Refusal)
+unfoldable pub files_of : AssembleTask → Inquiry (Result SourceFiles Refusal)
 files_of task = and_then (source_of task.file) (λ source. Answer (Ok (record { texts = output_texts task source.text; included = source.paths })))
 
 -- `dis`: the disassembly of a ROM, with the labels of a symbol file
-unfoldable pub disassembly_of : Task → Inquiry (Result (List ℕ) Refusal)
+unfoldable pub disassembly_of : DisassembleTask → Inquiry (Result (List ℕ) Refusal)
 disassembly_of task =
     and_then (text_of kinds.BankRom task.file) (λ rom.
-    and_then (symbols_of (role_path task role.Symbols)) (λ given.
+    and_then (symbols_of task.symbols) (λ given.
     Answer (Ok (disassembly rom (unwrap_or given [])))))
 
 -- `line`: the machines of a setup: their ROMs, and the script of the first one
@@ -157,8 +156,14 @@ machines_in setup =
     and_then (script_of setup.script) (λ script.
     Answer (Ok (record { setup = setup; roms = roms; script = script }))))
 
-unfoldable pub machines_of : Task → Inquiry (Result Machines Refusal)
-machines_of task = and_then (setup_of task.file) machines_in
+unfoldable pub machines_of : List ℕ → Inquiry (Result Machines Refusal)
+machines_of path = and_then (setup_of path) machines_in
+
+-- the source that a task reads first
+abbrev pub first_source : Task → Option (List ℕ)
+first_source (Run run debug) = if run.rom then None else Some run.file
+first_source (Assemble task) = Some task.file
+first_source _ = None
 
 -- ---- then the outputs, in order: each can be made and is no included file (135)
 

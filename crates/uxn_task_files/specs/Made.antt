@@ -11,7 +11,8 @@ use Rattle.uxn_io_traits.specs.Outside.{Change}
 use Rattle.uxn_io_traits.specs.State.{TreeState}
 use Rattle.uxn_opcodes.specs.declared.Stop.TheVariants.{TreeFault, SinkFault, NoMemory}
 use Rattle.uxn_arguments.specs.declared.task.Task.{Task}
-use Rattle.uxn_arguments.specs.Places.{HasApartOutputs, outputs_of}
+use Rattle.uxn_arguments.specs.Options.{outputs_of}
+use Rattle.uxn_arguments.specs.Places.{HasApartOutputs}
 use Rattle.uxn_task_files.specs.declared.refusal.Refusal.{Refusal}
 use Rattle.uxn_task_files.specs.declared.refusal.Refusal.TheVariants.{NoOutput}
 use Rattle.uxn_task_files.specs.declared.refusal.Halt.{Halt}

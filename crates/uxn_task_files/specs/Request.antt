@@ -5,13 +5,9 @@ use Rattle.uxn_arguments.specs.declared.words.WordFault.{WordFault}
 use Rattle.uxn_arguments.specs.declared.words.WordFault.TheVariants as words
 use Rattle.uxn_task_files.specs.declared.refusal.Refusal.{Refusal}
 use Rattle.uxn_task_files.specs.declared.refusal.Refusal.TheVariants.{NotUnderstood, NoPath, NoOutput}
+use Rattle.uxn_arguments.specs.Values.{then_steps}
 use Rattle.uxn_arguments.specs.Words.{task_of}
 use Rattle.uxn_arguments.specs.Places.{first_clash}
-
--- a step after another: the first refusal counts
-abbrev pub then_requests : {A B : Type 0} → Result A Refusal → (A → Result B Refusal) → Result B Refusal
-then_requests (Ok value) next = next value
-then_requests (Err refusal) next = Err refusal
 
 -- the words are legal (128), and each that names a file is a path (129)
 abbrev pub refused : Result Task WordFault → Result Task Refusal
@@ -29,4 +25,4 @@ apart task = validated_clash task (first_clash task)
 
 -- what the words alone determine: the task, or why they are refused whatever the tree holds
 unfoldable pub request : List (List ℕ) → Result Task Refusal
-request words = then_requests (refused (task_of words)) apart
+request words = then_steps (refused (task_of words)) apart

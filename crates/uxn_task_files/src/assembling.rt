@@ -1,5 +1,5 @@
 //! What `asm` does: a source is assembled, and what is requested is written.
-ghost use Rattle.std.specs.Prelude.{◌≡◌, ◌++◌, Ok, IfOk, OnOk};
+ghost use Rattle.std.specs.Prelude.{◌≡◌, ◌++◌, Ok, Some, IfOk, OnOk};
 ghost use Rattle.tal_rom.specs.Assembly.{IsAssembled};
 ghost use Rattle.tal_symbols.specs.SymbolFile.{symbol_file};
 ghost use Rattle.tal_listing.specs.Listing.{listing_of};
@@ -18,24 +18,22 @@ use tal_assembly::AssembledSource;
 use tal_listing::listing;
 use tal_rom::Assembly;
 use tal_symbols::write_symbols;
-use uxn_arguments::{Role, Task};
+use uxn_arguments::AssembleTask;
 use uxn_inquiry::Halt as InquiryHalt;
 use uxn_io_traits::{Path, Tree};
 
-/// The file of a ROM, where it was requested.
+/// The file of a ROM.
 #[tactic(auto, using(crate::proofs::OutputLemmas::pushed))]
 fn push_rom(
     alloc: Global,
     outputs: &mut Vec<Output>,
-    path: &Option<Path>,
+    path: &Path,
     assembly: &Assembly,
 ) -> Result<(), AllocError>
-    ensures { OnOk result (observed_texts outputs.new.items ≡ observed_texts outputs.old.items ++ requested_output path.now assembly.now.rom) }
+    ensures { OnOk result (observed_texts outputs.new.items ≡ observed_texts outputs.old.items ++ requested_output (Some path.now) assembly.now.rom) }
 {
-    if let Some(path) = path {
-        let bytes = Vec::from_slice(alloc, assembly.rom())?;
-        outputs.push(Output { path: *path, bytes })?;
-    }
+    let bytes = Vec::from_slice(alloc, assembly.rom())?;
+    outputs.push(Output { path: *path, bytes })?;
     Ok(())
 }
 
@@ -77,26 +75,16 @@ fn push_listing(
 /// The files that were requested, with what they are to hold.
 fn outputs_of(
     alloc: Global,
-    task: &Task,
+    task: &AssembleTask,
     source: &AssembledSource,
 ) -> Result<Vec<Output>, AllocError>
     requires { IsAssembled source.now.text (Ok source.now.assembly) }
     ensures { IfOk result (λ outputs. observed_texts outputs.items ≡ output_texts task.now source.now.text) }
 {
     let mut outputs = Vec::new(alloc);
-    push_rom(
-        alloc,
-        &mut outputs,
-        &task.path(Role::Out),
-        source.assembly(),
-    )?;
-    push_symbols(
-        alloc,
-        &mut outputs,
-        &task.path(Role::Symbols),
-        source.assembly(),
-    )?;
-    push_listing(alloc, &mut outputs, &task.path(Role::Listing), source)?;
+    push_rom(alloc, &mut outputs, &task.out, source.assembly())?;
+    push_symbols(alloc, &mut outputs, &task.symbols, source.assembly())?;
+    push_listing(alloc, &mut outputs, &task.listing, source)?;
     Ok(outputs)
 }
 
@@ -112,7 +100,7 @@ pub struct Written {
 /// Assembles the source in a file. All that takes memory is done here, before the first file is made.
 pub fn assemble<T: Tree>(
     alloc: Global,
-    task: &Task,
+    task: &AssembleTask,
     tree: &mut T,
 ) -> Result<Written, InquiryHalt<Refusal>>
     ensures { Inquires model_of_files (files_of task.now) (T.state tree.old) (T.state tree.new) result }

@@ -7,20 +7,20 @@ use super::refusal::Refusal;
 use super::symbols::{accept_symbols, labels_or};
 use std::alloc::Global;
 use tal_listing::disassemble;
-use uxn_arguments::{Role, Task};
+use uxn_arguments::DisassembleTask;
 use uxn_inquiry::Halt;
 use uxn_io_traits::Tree;
 
 /// The disassembly of a ROM file, where it and the symbols are accepted.
 pub fn disassemble_rom<T: Tree>(
     alloc: Global,
-    task: &Task,
+    task: &DisassembleTask,
     tree: &mut T,
 ) -> Result<Vec<u8>, Halt<Refusal>>
     ensures { Inquires (λ text. text.items) (disassembly_of task.now) (T.state tree.old) (T.state tree.new) result }
 {
     let rom = read_text(alloc, InputKind::BankRom, &task.file, tree)?;
-    let given = accept_symbols(alloc, &task.path(Role::Symbols), tree)?;
+    let given = accept_symbols(alloc, &task.symbols, tree)?;
     let text = disassemble(alloc, rom.as_slice(), labels_or(&given, &[]))?;
     Ok(text)
 }

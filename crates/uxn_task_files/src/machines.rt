@@ -16,7 +16,6 @@ use super::sources::accept_source;
 use play_script::Script;
 use setup_lines::{Setup, SetupStop, read_setup};
 use std::alloc::Global;
-use uxn_arguments::Task;
 use uxn_inquiry::Halt;
 use uxn_io_traits::{Bytes, Path, Tree};
 
@@ -98,15 +97,15 @@ fn accept_machines<T: Tree>(
     })
 }
 
-/// The machines of the setup of a task.
+/// The machines of the setup at a path.
 pub fn read_machines<T: Tree>(
     alloc: Global,
-    task: &Task,
+    path: &Path,
     tree: &mut T,
 ) -> Result<LineInputs, Halt<Refusal>>
-    ensures reads { Inquires model_of_machines (machines_of task.now) (T.state tree.old) (T.state tree.new) result }
+    ensures reads { Inquires model_of_machines (machines_of path.now) (T.state tree.old) (T.state tree.new) result }
     ensures machines { IfOk result (λ inputs. AreMachines inputs.setup.sources inputs.roms.items) }
 {
-    let setup = accept_setup(alloc, &task.file, tree)?;
+    let setup = accept_setup(alloc, path, tree)?;
     accept_machines(alloc, setup, tree)
 }

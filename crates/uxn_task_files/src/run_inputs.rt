@@ -14,31 +14,27 @@ use debug_commands::DebugCommand;
 use play_script::Script;
 use std::alloc::Global;
 use tal_words::Label;
-use uxn_arguments::{Command, Role, Task};
+use uxn_arguments::{DebugTask, RunTask};
 use uxn_inquiry::Halt;
 use uxn_io_traits::{Path, Tree};
 
-/// The file of symbols that a run is given.
-fn symbols_input(task: &Task) -> Option<Path>
-    ensures { result ≡ symbols_input task.now.command task.now }
+/// The file of symbols that a debugger is given.
+fn symbols_input(debug: &Option<DebugTask>) -> Option<Path>
+    ensures { result ≡ symbols_input debug.now }
 {
-    match task.command {
-        Command::Debug | Command::Disassemble => task.path(Role::Symbols),
-        Command::Play | Command::Assemble | Command::Generate | Command::Line => None,
+    match debug {
+        Some(debug) => debug.symbols,
+        None => None,
     }
 }
 
-/// The file of commands that a run is given.
-fn commands_input(task: &Task) -> Option<Path>
-    ensures { result ≡ commands_input task.now.command task.now }
+/// The file of commands that a debugger is given.
+fn commands_input(debug: &Option<DebugTask>) -> Option<Path>
+    ensures { result ≡ commands_input debug.now }
 {
-    match task.command {
-        Command::Debug => task.path(Role::Commands),
-        Command::Play
-        | Command::Assemble
-        | Command::Disassemble
-        | Command::Generate
-        | Command::Line => None,
+    match debug {
+        Some(debug) => Some(debug.commands),
+        None => None,
     }
 }
 
@@ -58,17 +54,18 @@ pub struct RunInputs {
 /// Reads the inputs of a run, one after the other.
 pub fn read_run<T: Tree>(
     alloc: Global,
-    task: &Task,
+    run: &RunTask,
+    debug: &Option<DebugTask>,
     tree: &mut T,
 ) -> Result<RunInputs, Halt<Refusal>>
-    ensures reads { Inquires model_of_inputs (run_of task.now.command task.now) (T.state tree.old) (T.state tree.new) result }
+    ensures reads { Inquires model_of_inputs (run_of run.now debug.now) (T.state tree.old) (T.state tree.new) result }
     ensures room { IfOk result (λ inputs. length (model_of_program inputs.program).rom ≤ largest_rom) }
 {
-    let program = accept_program(alloc, task.rom, &task.file, tree)?;
-    let given = accept_symbols(alloc, &symbols_input(task), tree)?;
-    let script = accept_script(alloc, &task.path(Role::Script), tree)?;
+    let program = accept_program(alloc, run.rom, &run.file, tree)?;
+    let given = accept_symbols(alloc, &symbols_input(debug), tree)?;
+    let script = accept_script(alloc, &run.script, tree)?;
     let labels = labels_of(&program, &given);
-    let commands = accept_commands(alloc, &commands_input(task), labels, tree)?;
+    let commands = accept_commands(alloc, &commands_input(debug), labels, tree)?;
     Ok(RunInputs {
         program,
         given,

@@ -1,5 +1,6 @@
 //! What the words ask for: a task, none of whose outputs clashes with another file.
-ghost use Rattle.std.specs.Prelude.{◌≡◌, ◌≤◌, map, string_bytes, IfOk};
+ghost use Rattle.std.specs.Prelude.{◌≡◌, map, string_bytes, IfOk};
+ghost use Rattle.uxn_arguments.specs.Options.{HasBudget};
 ghost use Rattle.uxn_arguments.specs.Places.{HasApartOutputs};
 ghost use Rattle.uxn_task_files.specs.Request.{apart};
 ghost use Rattle.uxn_task_files.specs.Request.{request};
@@ -27,7 +28,7 @@ fn apart(alloc: Global, task: Task) -> Result<Task, Halt<Refusal>>
 pub fn request(alloc: Global, words: &[String]) -> Result<Task, Halt<Refusal>>
     ensures says { Says (λ task. task) (request (map string_bytes words.now)) result }
     ensures apart { IfOk result HasApartOutputs }
-    ensures budget { IfOk result (λ task. 1 ≤ task.budget) }
+    ensures budget { IfOk result HasBudget }
 {
     match read_words(alloc, words) {
         Ok(task) => apart(alloc, task),

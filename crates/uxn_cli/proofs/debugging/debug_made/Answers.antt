@@ -1,5 +1,4 @@
-use Rattle.uxn_cli.proofs.Common.{requested_output, outside-of-tree, is_err, ◌≡◌, ◌∙◌, refl, rules, Err, log_text, debugging, role_path}
-use Rattle.uxn_arguments.specs.declared.role.Role.TheVariants as role
+use Rattle.uxn_cli.proofs.Common.{requested_output, outside-of-tree, is_err, ◌≡◌, ◌∙◌, refl, rules, Err, Some, log_text, debugging}
 use Rattle.uxn_io_traits.specs.EndedLaws.{refuses-then}
 use Rattle.uxn_cli.proofs.ChangeLemmas.{filled-of-tree}
 use Rattle.uxn_cli.proofs.RunLemmas.{runs-as, runs-first, runs-then, stays-if, kept-log}
@@ -11,16 +10,16 @@ returns-in_err-end-clause-runs g c = λ commands labels new.
     rw result (runs-first _ _ _ _ _ _ _ _ (runs-as _ _ _ _ _ _ _ _ _ (λ trace. refl) (λ watched. refl) c.in_err-end.ensures.runs))
 
 pub write_text-requires : goal.write_text-requires
-write_text-requires g c = rw c.path.ensures (stays-if (role_path c.args.task.now role.Root) (role_path c.args.task.now role.Log) _ _ c.in_ok-end.ensures.runs.files c.requires.log)
+write_text-requires g c = stays-if c.args.task.now.root (Some c.args.debug.now.log) _ _ c.in_ok-end.ensures.runs.files c.requires.log
 
 pub returns-clause-runs : goal.returns-clause-runs
 returns-clause-runs g c = λ commands labels new.
     let kept = kept-log c.the_log_is_that_of_the_run.ensures c.the_moments_of_a_run_are_counted.ensures c.the_moments_of_a_run_are_in_a_row.ensures c.args.task.now c.args.machine
-    c.core_known.ensures commands labels _ _ new in
-    rw (c.or.ensures, c.and.ensures) (runs-then _ _ _ _ _ (role_path c.args.task.now role.Log) _ (log_text (debugging c.args.task.now commands labels)) _ _ c.in_ok-end.end
+    c.core_known.ensures c.args.debug.now commands labels _ _ new in
+    rw (c.or.ensures, c.and.ensures) (runs-then _ _ _ _ _ (Some c.args.debug.now.log) _ (log_text (debugging c.args.debug.now commands labels)) _ _ c.in_ok-end.end
     (runs-as _ _ _ _ _ _ _ _ _ (λ trace. refl) (λ watched. refl) c.in_ok-end.ensures.runs) (λ root_view root files. c.log.ensures ∙ kept root_view (c.in_ok-end.ensures.watcher root_view root files))
     c.write_text.result
-    (outside-of-tree _ (is_err c.write_text.result) _ _ (g.O.Sink.state c.run_made.new.host.out.now) (g.E.Sink.state c.run_made.new.host.err.now) (filled-of-tree (requested_output (role_path c.args.task.now role.Log) c.log.result.now)) (rw c.path.ensures at c.write_text.ensures.ended)))
+    (outside-of-tree _ (is_err c.write_text.result) _ _ (g.O.Sink.state c.run_made.new.host.out.now) (g.E.Sink.state c.run_made.new.host.err.now) (filled-of-tree (requested_output (Some c.args.debug.now.log) c.log.result.now)) c.write_text.ensures.ended))
 
 pub returns-clause-refusals : goal.returns-clause-refusals
 returns-clause-refusals g c = λ none. refuses-then _ _ _ (c.in_ok-end.ensures.refusals none) c.write_text.ensures.refused

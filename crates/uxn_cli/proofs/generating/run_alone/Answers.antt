@@ -1,4 +1,4 @@
-use Rattle.uxn_cli.proofs.Common.{◌≡◌, sym, subst, false, List, ℕ, refl, Option, Some, World, None, bus_clock, no_root_view, empty_world, lone_trace, rules}
+use Rattle.uxn_cli.proofs.Common.{◌≡◌, sym, subst, false, List, ℕ, refl, Option, Some, World, None, clock_by, no_root_view, empty_world, lone_trace, rules}
 use Rattle.varvara_bus.specs.State.{DevicesRepresent, new_state}
 use Rattle.std.specs.FinMap as fin
 use Rattle.uxn_cli.proofs.WorkloadLemmas.{has-console}
@@ -8,7 +8,7 @@ pub run_machine-requires-clause-devices : goal.run_machine-requires-clause-devic
 run_machine-requires-clause-devices c =
     let devices = c.args.machine.now.devices in
     let root : devices.root ≡ None = (c.requires.devices fin.empty false).root in
-    λ part parent. subst (λ (r : Option (List ℕ)). DevicesRepresent devices (new_state (bus_clock c.args.machine.now.script.clock) r part parent))
+    λ part parent. subst (λ (r : Option (List ℕ)). DevicesRepresent devices (new_state (clock_by c.args.machine.now.script.clock) r part parent))
     (sym root) (c.requires.devices part parent)
 
 pub returns-in-Ok : goal.returns-in-Ok

@@ -4,10 +4,10 @@ use Rattle.uxn_cli.proofs.playing.ready.Goals as goal
 pub returns-clause-ready : goal.returns-clause-ready
 returns-clause-ready c = record {
   core = c.in_ok-machine.ensures.core ∙ ap new_core c.rom.ensures;
-  devices = rw c.in_ok-machine.ensures.script (rw c.path.ensures at c.in_ok-machine.ensures.devices);
+  devices = rw c.in_ok-machine.ensures.script c.in_ok-machine.ensures.devices;
   undo = c.in_ok-session.ensures.undo;
   outputs = c.in_ok-outputs.ensures ∙ c.deref.ensures.value ∙ c.in_ok-paths.ensures;
 }
 
 pub returns-clause-plan : goal.returns-clause-plan
-returns-clause-plan c = rw (c.in_ok-machine.ensures.script, c.in_ok-session.ensures.debugger c.args.task.now (model_of_program c.args.inputs.program)) refl
+returns-clause-plan c = rw (c.in_ok-machine.ensures.script, c.in_ok-session.ensures.debugger (model_of_program c.args.inputs.program)) refl

@@ -1,8 +1,6 @@
-use Rattle.uxn_cli.proofs.Common.{◌≡◌, ◌∙◌, ap, sym, subst, rules, Err, false, is_err, outside-of-tree, requested_output, state_exit, report_text, AreNew}
-use Rattle.uxn_cli.proofs.Common.{role_path}
+use Rattle.uxn_cli.proofs.Common.{◌≡◌, ◌∙◌, ap, sym, subst, rules, Err, false, is_err, outside-of-tree, requested_output, exit_code_at, report_text, AreNew}
 use Rattle.std.specs.FinMap as fin
 use Rattle.uxn_io_traits.specs.EndedLaws.{refuses-then}
-use Rattle.uxn_arguments.specs.declared.role.Role.TheVariants as role
 use Rattle.uxn_cli.proofs.ChangeLemmas.{filled-of-tree}
 use Rattle.uxn_cli.proofs.RunLemmas.{runs-at, runs-first, runs-then, shown-then, stays-if}
 use Rattle.uxn_cli.proofs.running.run_made.Goals as goal
@@ -24,17 +22,17 @@ returns-in_err-end-clause-runs g c =
 pub write_text-requires : goal.write_text-requires
 write_text-requires g c =
     let held = (c.requires.devices fin.empty false).root in
-    rw c.path.ensures (stays-if (role_path c.args.task.now role.Root) (role_path c.args.task.now role.Report) _ _ (rw held at c.in_ok-end.ensures.runs.files) c.requires.files.report)
+    stays-if c.args.task.now.root c.args.task.now.report _ _ (rw held at c.in_ok-end.ensures.runs.files) c.requires.files.report
 
 pub returns-clause-runs : goal.returns-clause-runs
 returns-clause-runs g c =
     let held = (c.requires.devices fin.empty false).root in
     let version = c.args.machine.script.version in
     let runs = runs-at _ _ _ _ _ _ _ _ held (rw c.settings_of.ensures at c.in_ok-end.ensures.runs) in
-    rw (c.or.ensures, c.and.ensures) (runs-then _ _ _ _ _ (role_path c.args.task.now role.Report) _ (λ trace. report_text version (state_exit trace.last) trace.last.tally) _ _ c.in_ok-end.end runs
+    rw (c.or.ensures, c.and.ensures) (runs-then _ _ _ _ _ c.args.task.now.report _ (λ trace. report_text version (exit_code_at trace.last) trace.last.tally) _ _ c.in_ok-end.end runs
     (λ root_view root files. ap (λ end. report_text version end.exit end.tally) (runs.from root_view root files).ends) c.write_text.result
-    (outside-of-tree _ (is_err c.write_text.result) _ _ (g.O.Sink.state c.run_machine.new.host.out.now) (g.E.Sink.state c.run_machine.new.host.err.now) (filled-of-tree (requested_output (role_path c.args.task.now role.Report) (report_text version c.in_ok-end.end.exit c.in_ok-end.end.tally)))
-    (rw (c.path.ensures, c.deref.ensures.0 ∙ c.report-text.ensures version c.version-version.ensures) at c.write_text.ensures.ended)))
+    (outside-of-tree _ (is_err c.write_text.result) _ _ (g.O.Sink.state c.run_machine.new.host.out.now) (g.E.Sink.state c.run_machine.new.host.err.now) (filled-of-tree (requested_output c.args.task.now.report (report_text version c.in_ok-end.end.exit c.in_ok-end.end.tally)))
+    (rw (c.deref.ensures.0 ∙ c.report-text.ensures version c.version-version.ensures) at c.write_text.ensures.ended)))
 
 pub returns-clause-watcher : goal.returns-clause-watcher
 returns-clause-watcher g c = λ root_view root files.

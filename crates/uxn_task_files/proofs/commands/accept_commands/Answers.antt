@@ -1,16 +1,12 @@
-use Rattle.uxn_task_files.proofs.Common.{◌≡◌, Err, rules, inquires-stop, inquires-more, inquires-last}
+use Rattle.uxn_task_files.proofs.Common.{rules}
 unfoldable use Rattle.uxn_task_files.proofs.Common.{commands_of}
+use Rattle.uxn_task_files.proofs.StepLemmas.{step-stop, step-last}
 use Rattle.uxn_task_files.proofs.commands.accept_commands.Goals as goal
 
 pub returns-in_err-text : goal.returns-in_err-text
 unfolding commands_of
-returns-in_err-text g c =
-    let q = c.in_err-text.ensures in
-    let result : c.from_residual.result ≡ Err c.in_err-text.field-0.0 = search rules in
-    rw result (search (rules, inquires-stop, inquires-more) depth 8)
+returns-in_err-text g c = step-stop _ _ _ _ _ _ _ _ (search rules) c.in_err-text.ensures
 
 pub returns : goal.returns
 unfolding commands_of
-returns g c =
-    let p0 = c.in_ok-text.ensures in
-    inquires-last _ _ _ _ _ _ _ _ p0 c.said_commands.ensures
+returns g c = step-last _ _ _ _ _ _ _ _ c.in_ok-text.ensures c.said_commands.ensures

@@ -1,25 +1,18 @@
-use Rattle.uxn_task_files.proofs.Common.{◌≡◌, Err, rules, inquires-stop, inquires-more, inquires-last, refl}
+use Rattle.uxn_task_files.proofs.Common.{rules, refl}
 unfoldable use Rattle.uxn_task_files.proofs.Common.{machines_in}
+use Rattle.uxn_task_files.proofs.StepLemmas.{step-stop, step-more, step-last}
 use Rattle.uxn_task_files.proofs.machines.accept_machines.Goals as goal
 
 pub returns-in_err-roms-clause-reads : goal.returns-in_err-roms-clause-reads
 unfolding machines_in
-returns-in_err-roms-clause-reads g c =
-    let q = rw c.sources.ensures.paths at c.in_err-roms.ensures.roms in
-    let result : c.from_residual.result ≡ Err c.in_err-roms.field-0.0 = search rules in
-    rw result (search (rules, inquires-stop, inquires-more) depth 8)
+returns-in_err-roms-clause-reads g c = step-stop _ _ _ _ _ _ _ _ (search rules) (rw c.sources.ensures.paths at c.in_err-roms.ensures.roms)
 
 pub returns-in_err-script-clause-reads : goal.returns-in_err-script-clause-reads
 unfolding machines_in
 returns-in_err-script-clause-reads g c =
-    let p0 = rw c.sources.ensures.paths at c.in_ok-roms.ensures.roms in
-    let q = rw c.script.ensures at c.in_err-script.ensures in
-    let result : c.from_residual-in_err-script.result ≡ Err c.in_err-script.field-0.0 = search rules in
-    rw result (search (rules, inquires-stop, inquires-more) depth 8)
+    step-more _ _ _ _ _ _ _ _ _ (rw c.sources.ensures.paths at c.in_ok-roms.ensures.roms) (step-stop _ _ _ _ _ _ _ _ (search rules) (rw c.script.ensures at c.in_err-script.ensures))
 
 pub returns-clause-reads : goal.returns-clause-reads
 unfolding machines_in
 returns-clause-reads g c =
-    let p0 = rw c.sources.ensures.paths at c.in_ok-roms.ensures.roms in
-    let p1 = rw c.script.ensures at c.in_ok-script.ensures in
-    inquires-more _ _ _ _ _ _ _ _ _ p0 (inquires-last _ _ _ _ _ _ _ _ p1 refl)
+    step-more _ _ _ _ _ _ _ _ _ (rw c.sources.ensures.paths at c.in_ok-roms.ensures.roms) (step-last _ _ _ _ _ _ _ _ (rw c.script.ensures at c.in_ok-script.ensures) refl)
