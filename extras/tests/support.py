@@ -1,15 +1,25 @@
 """What the tests of the tools share: a folder for each test, the built program as `uxn`, and calls of the tools as a user makes them."""
 from __future__ import annotations
 
+import glob
 import os
 import shutil
 import subprocess
+import sys
 import tempfile
 import unittest
 
 TOP = os.path.realpath(os.path.join(os.path.dirname(__file__), "..", ".."))
 EXTRAS = os.path.join(TOP, "extras")
 EXAMPLES = os.path.join(TOP, "examples")
+CASES = os.path.join(TOP, "cases")
+sys.path.append(CASES)
+import stored  # noqa: E402
+
+
+def cases() -> list[stored.Case]:
+    """The cases of cases/, in the order of their names."""
+    return [stored.read(path) for path in sorted(glob.glob(os.path.join(CASES, "*", "*.case")))]
 
 
 def needs(*tools: str):

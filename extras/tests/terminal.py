@@ -47,18 +47,6 @@ class Terminal:
             raise AssertionError(f"{text!r} did not come; seen was {before!r}")
         return before + found
 
-    def wait_until_idle(self, seconds: float = 20) -> None:
-        """Waits until the tool itself waits, as for a key. A Ctrl-C a moment before would stay unnoticed up to the
-        next key, since Python looks for it only where the wait for a key is broken off."""
-        end = time.monotonic() + seconds
-        while time.monotonic() < end:
-            with open(f"/proc/{self.process.pid}/stat", encoding="ascii", errors="replace") as file:
-                state = file.read().rpartition(")")[2].split()[0]
-            if state == "S":
-                return
-            time.sleep(0.001)
-        raise AssertionError("it does not wait")
-
     def type(self, text: str) -> None:
         os.write(self.outer, text.encode())
 

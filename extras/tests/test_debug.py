@@ -4,6 +4,7 @@ import re
 import shutil
 import signal
 import struct
+import termios
 import time
 
 from support import EXAMPLES, ToolTest
@@ -95,7 +96,6 @@ class AtTheTerminal(Debug):
         terminal.read()
         terminal.type("run")
         terminal.wait_for("run", 60)
-        terminal.wait_until_idle()
         terminal.type("\x03")
         terminal.read()
         self.assertIn("moment 1:", terminal.ask("step"))
@@ -501,10 +501,32 @@ class Programs(Debug):
         terminal = self.at_terminal(["uxn-debug", self.example("mistake.tal")])
         terminal.read()
         self.assertEqual(len(os.listdir(self.path("tmp"))), 1)
-        terminal.wait_until_idle()
         terminal.process.send_signal(signal.SIGTERM)
         self.assertEqual(terminal.end(), 143)
         self.assertEqual(os.listdir(self.path("tmp")), [])
+
+    def test_signals_in_the_instant_before_the_wait_for_a_key(self) -> None:
+        """Each comes behind the last look for signals, since only functions of C run from there on. The tool ends,
+        or goes on with the next line, and the terminal is as it was."""
+        os.mkdir(self.path("tmp"))
+        self.environment |= {"TMPDIR": self.path("tmp"), "PYTHONPATH": self.path("site")}
+        for number in (signal.SIGTERM, signal.SIGHUP, signal.SIGINT):
+            self.write(
+                "site/sitecustomize.py",
+                "import ctypes, functools, os, readline, sys\n"
+                "strike = functools.partial(ctypes.CDLL(None)['raise'], %d)\n" % number
+                + "if 'uxn-debug' in ''.join(sys.orig_argv): readline.set_pre_input_hook(strike)\n",
+            )
+            terminal = self.at_terminal(["uxn-debug", self.example("mistake.tal")])
+            before = termios.tcgetattr(terminal.outer)[3]
+            if number == signal.SIGINT:
+                terminal.wait_for("(uxn) \n", 60)
+                terminal.process.kill()
+                terminal.end()
+                continue
+            self.assertEqual(terminal.process.wait(60), 128 + number)
+            self.assertEqual(termios.tcgetattr(terminal.outer)[3], before)
+            self.assertEqual(os.listdir(self.path("tmp")), [])
 
     def test_large_output(self) -> None:
         self.write("a.tal", "@loop #41 #18 DEO !loop")

@@ -5,8 +5,7 @@ import os
 import shutil
 import sys
 
-import case_files
-from support import EXAMPLES, EXTRAS, TOP, ToolTest
+from support import EXAMPLES, EXTRAS, TOP, ToolTest, cases
 
 sys.path.insert(0, EXTRAS)
 from uxntools import source  # noqa: E402
@@ -179,6 +178,6 @@ class Layout(ToolTest):
 
 def _sources_of_cases() -> list[bytes]:
     """The sources of the cases, each once."""
-    cases = map(case_files.read, sorted(glob.glob(os.path.join(TOP, "cases", "*", "*.case"))))
-    found = {data: None for case in cases for name, data in case.files.items() if name.endswith(b".tal")}
+    files = [file for case in cases() for file in case.tree.items()]
+    found = dict.fromkeys(data for name, data in files if data is not None and name.endswith(b".tal"))
     return [data for data in found if len(data) < 1 << 16]

@@ -1,7 +1,6 @@
 """uxn-lsp: a session of an editor with a program of 168 lines and an included file, its answers, faults, and times."""
 from __future__ import annotations
 
-import glob
 import os
 import random
 import re
@@ -12,9 +11,8 @@ import time
 import urllib.parse
 from typing import Any
 
-import case_files
 from lsp_client import Client, Json
-from support import EXTRAS, ToolTest
+from support import EXTRAS, ToolTest, cases
 
 sys.path.insert(0, EXTRAS)
 from uxntools import symbols  # noqa: E402
@@ -341,19 +339,29 @@ class Diagnostics(Session):
         file."""
         os.environ["PATH"] = self.environment["PATH"]
         kinds = set()
-        for path in sorted(glob.glob(os.path.join(case_files.CASES, "*", "*.case"))):
-            case = case_files.read(path)
+        for case in cases():
             wanted = REFUSAL.fullmatch(case.err)
             name = next((os.fsdecode(word) for word in case.words[1:] if word.endswith(b".tal")), "")
-            is_small = sum(map(len, case.files.values())) < 20000
-            if not wanted or not case.is_whole or not is_small or case.words[0] == b"line" or not name:
+            is_small = sum(len(data or b"") for data in case.tree.values()) < 20000
+            if not wanted or not is_small or case.words[0] == b"line" or not name:
                 continue
-            with self.subTest(path), tempfile.TemporaryDirectory(dir=self.folder) as folder:
-                for file, data in case.files.items():
-                    self.write(os.path.join(folder, os.fsdecode(file)), data)
+            # The call counts a path from its own folder, the server from the source's.
+            if wanted["kind"] == b"IncludePath" and "/" in name:
+                continue
+            with self.subTest(case.name), tempfile.TemporaryDirectory(dir=self.folder) as folder:
+                self.make(folder, case.tree)
                 kinds.add(wanted["kind"].decode())
                 self.check_fault(folder, os.path.join(folder, name), wanted)
         self.assertGreaterEqual(len(kinds), 18, kinds)
+
+    def make(self, folder: str, tree: dict[bytes, bytes | None]) -> None:
+        """Makes the files and folders of a case."""
+        for path, data in tree.items():
+            place = os.path.join(folder, os.fsdecode(path))
+            if data is None:
+                os.makedirs(place, exist_ok=True)
+            else:
+                self.write(place, data)
 
     def check_fault(self, folder: str, main: str, wanted: re.Match[bytes]) -> None:
         place = os.path.normpath(os.path.join(folder, os.fsdecode(wanted["path"]))) if wanted["path"] else main

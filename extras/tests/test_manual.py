@@ -6,7 +6,7 @@ from support import EXTRAS, ToolTest, needs
 
 from uxntools import manual
 
-MADE_OF_PAGES = {"uxn.1", "uxn-script.5", "uxn-commands.5"}
+MADE_OF_PAGES = {"uxn.1", "uxn-limits.5", "uxn-script.5", "uxn-commands.5"}
 TITLE = manual.Title("try-it", 5, "a page - for tests", "1.0", "2026-01-02")
 PAGE = """# A page
 

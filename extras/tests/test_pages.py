@@ -9,7 +9,7 @@ from support import TOP, ToolTest
 
 PAGES = os.path.join(TOP, ".ci", "pages")
 CONDITIONS = os.path.join(TOP, ".ci", "conditions")
-ROLES = "crates/uxn_arguments/specs/Roles.antt"
+OPTIONS = "crates/uxn_arguments/specs/Options.antt"
 GOOD = """# A page
 
 For people who try. It works.
@@ -58,8 +58,8 @@ class PagesTest(ToolTest):
         super().setUp()
         subprocess.run(["git", "init", "-q", self.folder], check=True)
         self.write("crates.txt", "")
-        with open(os.path.join(TOP, ROLES), encoding="utf-8") as file:
-            self.write(ROLES, file.read())
+        with open(os.path.join(TOP, OPTIONS), encoding="utf-8") as file:
+            self.write(OPTIONS, file.read())
         os.mkdir(self.path("examples"))
 
     def say(self, text: str, *words: str) -> list[str]:
@@ -112,6 +112,73 @@ class PagesTest(ToolTest):
         self.refuse(2, PAGES)
         self.refuse(2, PAGES, self.program, "--no-such-option")
         self.assertTrue(re.search("norun: REASON", self.succeed(PAGES, "--help")))
+
+
+NUMBERS = """/// Bytes of a source.
+pub const TEXT_LIMIT: usize = 4_194_304;
+
+/// Machines of a setup, at least.
+pub const FEWEST_MACHINES: usize = 2;
+"""
+LIMITS = """# Limits
+
+For people who try.
+
+| what | limit | past it |
+|---|---|---|
+| source | 4,194,304 bytes | 131 |
+| machines | 2 to 8 | 139 |
+"""
+CASES = """# the limits
+source: TEXT_LIMIT
+within limits/short
+past limits/long
+machines: FEWEST_MACHINES other::MOST
+within limits/short
+past limits/long
+"""
+
+
+class LimitsTest(ToolTest):
+    def setUp(self) -> None:
+        super().setUp()
+        subprocess.run(["git", "init", "-q", self.folder], check=True)
+        self.write("crates.txt", "")
+        with open(os.path.join(TOP, OPTIONS), encoding="utf-8") as file:
+            self.write(OPTIONS, file.read())
+        os.mkdir(self.path("examples"))
+        self.write("crates/uxn_limits/src/limits.rt", NUMBERS)
+        self.write("crates/other/src/lib.rt", "const MOST: u8 = 8;\n")
+        self.write("docs/limits.md", LIMITS)
+        self.write("cases/limits.txt", CASES)
+        for case in ("short", "long"):
+            self.write(f"cases/limits/{case}.case", "")
+
+    def say(self, name: str = "", old: str = "", new: str = "") -> str:
+        """What the tool prints where a text of a file is another."""
+        if name:
+            text = self.read(name).decode()
+            self.assertEqual(text.count(old), 1)
+            self.write(name, text.replace(old, new))
+        return self.call(PAGES, "--top", self.folder, self.program).stdout.decode()
+
+    def test_page_with_the_numbers_of_the_code(self) -> None:
+        self.assertEqual(self.say().splitlines()[-1], "3 passed, 0 failed")
+
+    def test_another_number(self) -> None:
+        said = self.say("docs/limits.md", "4,194,304", "4,194,305")
+        self.assertIn("source: TEXT_LIMIT is 4,194,304", said)
+        said = self.say("crates/other/src/lib.rt", "= 8", "= 9")
+        self.assertIn("machines: other::MOST is 9", said)
+        self.assertEqual(said.splitlines()[-1], "1 passed, 2 failed")
+
+    def test_constants_that_are_not_named_or_not_there(self) -> None:
+        self.assertIn("no limit has the constant FEWEST_MACHINES", self.say("cases/limits.txt", "FEWEST_MACHINES ", ""))
+        self.assertIn("machines: no constant other::LEAST", self.say("cases/limits.txt", "other::MOST", "other::LEAST"))
+
+    def test_rows_and_cases(self) -> None:
+        self.assertIn("no case limits/none", self.say("cases/limits.txt", "TEXT_LIMIT\nwithin limits/short", "TEXT_LIMIT\nwithin limits/none"))
+        self.assertIn("not the same limits in the same order: ['machines', 'more']", self.say("docs/limits.md", "machines", "more"))
 
 
 LIBRARY = """mod inner;

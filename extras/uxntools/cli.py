@@ -6,9 +6,14 @@ import io
 import os
 import signal
 import sys
-from collections.abc import Callable
+from collections.abc import Callable, Iterator
+from contextlib import contextmanager
 from types import FrameType
 from typing import NoReturn
+
+
+# How often a wait for input is broken off, in seconds.
+TICK = 0.2
 
 
 class Failure(Exception):
@@ -45,6 +50,19 @@ def number(least: int, most: int) -> Callable[[str], int]:
 def _end(number: int, _: FrameType | None) -> NoReturn:
     """Ends the tool as an exit does, so that it takes its folders away."""
     sys.exit(128 + number)
+
+
+@contextmanager
+def noticing_signals() -> Iterator[None]:
+    """Lets a signal be noticed that comes in the instant before a wait for input: Python looks for it between its
+    instructions, and within the wait only where that is broken off. So it is broken off again and again."""
+    before = signal.signal(signal.SIGALRM, lambda *_: None)
+    signal.setitimer(signal.ITIMER_REAL, TICK, TICK)
+    try:
+        yield
+    finally:
+        signal.setitimer(signal.ITIMER_REAL, 0)
+        signal.signal(signal.SIGALRM, before)
 
 
 def run(main: Callable[[], int | None], name: str) -> NoReturn:

@@ -6,9 +6,11 @@ import re
 import shutil
 import subprocess
 import tempfile
+import threading
 from collections.abc import Iterator, Sequence
 from contextlib import contextmanager
 from dataclasses import dataclass
+from typing import IO
 
 from uxntools.cli import Failure
 
@@ -80,20 +82,52 @@ def call(*words: str, folder: str | None = None, stdin: bytes = b"", seconds: fl
     return Done(done.returncode, done.stdout, done.stderr)
 
 
-def call_for_files(*words: str, folder: str) -> Done:
+class Calls:
+    """Calls of `uxn` that several threads make, and that one of them can end."""
+
+    def __init__(self) -> None:
+        self._lock = threading.Lock()
+        self._running: set[subprocess.Popen[bytes]] = set()
+        self._is_ended = False
+
+    def wait(self, words: Sequence[str], folder: str, errors: IO[bytes]) -> int:
+        """Runs `uxn`, and answers its status."""
+        with self._lock:
+            if self._is_ended:
+                raise Failure("uxn was ended")
+            started = subprocess.Popen(
+                [path_of_uxn(), *words],
+                cwd=folder,
+                stdin=subprocess.DEVNULL,
+                stdout=subprocess.DEVNULL,
+                stderr=errors,
+            )
+            self._running.add(started)
+        try:
+            return started.wait()
+        except BaseException:
+            started.kill()
+            started.wait()
+            raise
+        finally:
+            with self._lock:
+                self._running.remove(started)
+
+    def end(self) -> None:
+        """Ends the running calls, and lets none begin."""
+        with self._lock:
+            self._is_ended = True
+            for started in self._running:
+                started.kill()
+
+
+def call_for_files(*words: str, folder: str, calls: Calls) -> Done:
     """The same where only the files matter that it writes: what it puts out is not kept, however much it is, but
     for the last line."""
     with tempfile.TemporaryFile() as errors:
-        done = subprocess.run(
-            [path_of_uxn(), *words],
-            cwd=folder,
-            stdin=subprocess.DEVNULL,
-            stdout=subprocess.DEVNULL,
-            stderr=errors,
-            check=False,
-        )
+        status = calls.wait(words, folder, errors)
         errors.seek(max(0, errors.seek(0, os.SEEK_END) - LAST_OF_ERRORS))
-        return Done(done.returncode, b"", errors.read())
+        return Done(status, b"", errors.read())
 
 
 def need(*words: str, folder: str | None = None) -> Done:

@@ -9,7 +9,6 @@ from __future__ import annotations
 
 import os
 from collections.abc import Callable, Iterator, Sequence
-from concurrent.futures import ThreadPoolExecutor
 from dataclasses import dataclass
 
 from uxntools import executed, log, moments
@@ -143,7 +142,7 @@ class Stores:
         count = min(os.cpu_count() or 1, MOST_PARTS, end // LEAST_PART + 1)
         bounds = [end * at // count for at in range(count + 1)]
         self._followed = 0
-        with ThreadPoolExecutor(count) as pool:
+        with self.workspace.side_by_side(count) as pool:
             parts = list(pool.map(lambda first, last: self._follow_part(watched, first, last, end), bounds, bounds[1:]))
         changes = [change for found, _ in parts for change in found]
         more = {address for _, addresses in parts for address in addresses}

@@ -7,13 +7,15 @@ import os
 import shutil
 import tempfile
 from collections.abc import Iterator, Mapping, Sequence
+from concurrent.futures import ThreadPoolExecutor
 from contextlib import contextmanager
 from dataclasses import dataclass, field
+from types import MappingProxyType
 
 from uxntools import listing, program, source, symbols
 from uxntools.cli import Failure
 from uxntools.listing import Row
-from uxntools.program import Done
+from uxntools.program import Calls, Done
 from uxntools.symbols import Labels
 
 # What a tool itself writes into the folder of a run; no input has these names.
@@ -102,6 +104,7 @@ class Workspace:
         self.target = target
         self.shortened: bytes | None = None
         self.cut: int | None = None
+        self._calls = Calls()
         self._scratch = tempfile.TemporaryDirectory(prefix="uxn-tool-")
         self._files = os.path.join(self._scratch.name, "files")
         os.mkdir(self._files)
@@ -137,6 +140,17 @@ class Workspace:
         return os.path.join(self._files, name)
 
     @contextmanager
+    def side_by_side(self, count: int) -> Iterator[ThreadPoolExecutor]:
+        """So many threads that look at runs. At the end no call is left, also where an exception is the end."""
+        with ThreadPoolExecutor(count) as pool:
+            try:
+                yield pool
+            finally:
+                self._calls.end()
+                pool.shutdown(cancel_futures=True)
+                self._calls = Calls()
+
+    @contextmanager
     def folder(self) -> Iterator[str]:
         """A folder for one call: its root is a copy, all else are links."""
         with tempfile.TemporaryDirectory(prefix="run-", dir=self._scratch.name) as folder:
@@ -160,19 +174,29 @@ class Workspace:
         elif os.path.exists(copies):
             shutil.copyfile(copies, folder)
 
-    def debug(self, commands: Sequence[str], run: tuple[bytes | None, int | None] | None = None) -> list[str]:
-        """The lines of the log of these commands (latin-1), over the present run, or over one with another script and
-        another budget."""
-        target, (script, budget) = self.target, run or (self.shortened, self.cut)
-        options = self._options(script, budget)
-        words = ["debug", target.source, f"--commands={OWN}commands", f"--log={OWN}log", *options]
-        words += [f"--symbols={target.symbols}"] if target.symbols is not None else []
-        files = {"commands": "\n".join([*commands, ""]).encode("latin-1")} | (
-            {} if script is None else {"script": script}
-        )
-        done, outputs = self.call(words, files, ["log"])
+    def debug(self, commands: Sequence[str]) -> list[str]:
+        """The lines of the log of these commands (latin-1), over the present run."""
+        named = [f"--symbols={self.target.symbols}"] if self.target.symbols is not None else []
+        words = [self.target.source, *self._options(self.shortened, self.cut), *named]
+        text = "\n".join([*commands, ""]).encode("latin-1")
+        return self._log(words, text, self.shortened).decode("latin-1").split("\n")[:-1]
+
+    def debug_rom(self, rom: bytes, commands: bytes, run: tuple[bytes | None, int | None]) -> bytes:
+        """The log of these commands without labels, over the run of the ROM with a script and a budget."""
+        options = [word for word in self._options(*run) if word != "--rom"]
+        return self._log([f"{OWN}rom", "--rom", *options], commands, run[0], {"rom": rom})
+
+    def _log(
+        self,
+        words: Sequence[str],
+        commands: bytes,
+        script: bytes | None,
+        files: Mapping[str, bytes] = MappingProxyType({}),
+    ) -> bytes:
+        own = {**files, "commands": commands} | ({} if script is None else {"script": script})
+        done, outputs = self.call(["debug", *words, f"--commands={OWN}commands", f"--log={OWN}log"], own, ["log"])
         program.accepted(done)
-        return outputs["log"].decode("latin-1").split("\n")[:-1]
+        return outputs["log"]
 
     def play(self, script: bytes, *outputs: str, budget: int | None = None) -> dict[str, bytes]:
         """The outputs (`frames`, `report`, ..) of a run over the given script, and with another budget where one is
@@ -208,7 +232,7 @@ class Workspace:
             for name, data in files.items():
                 with open(os.path.join(folder, OWN + name), "wb") as file:
                     file.write(data)
-            done = program.call_for_files(*words, folder=folder)
+            done = program.call_for_files(*words, folder=folder, calls=self._calls)
             return done, {name: _data(os.path.join(folder, OWN + name)) for name in outputs}
 
     def output(self) -> Done:

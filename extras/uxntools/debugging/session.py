@@ -9,7 +9,7 @@ from dataclasses import dataclass, replace
 from uxntools import events, opcodes, places, program
 from uxntools.cli import Failure
 from uxntools.debugging import backwards, frames
-from uxntools.debugging.backwards import FarStores, Unsure
+from uxntools.debugging.backwards import FarStores, Near, Unsure
 from uxntools.debugging.frames import Frame
 from uxntools.debugging.known import Known
 from uxntools.horizon import Horizon
@@ -49,22 +49,26 @@ class Session:
         self._open()
 
     def _open(self) -> None:
-        self.workspace = Workspace(self.target)
+        workspace = Workspace(self.target)
         try:
-            self.program = self.workspace.program()
-            self.rom = self.workspace.rom()
-            done, made = self.workspace.try_play(self.workspace.script(), "report")
-            if done.status in program.ENDED_EARLY:
-                self._shorten(done.status)
-                self.horizon = Horizon(self.workspace)
-            else:
-                program.accepted(done)
-                self.horizon = Horizon(self.workspace, made["report"])
-            self.known = Known(self.workspace, self.horizon)
-            self.here = self.known.at(0)
+            loaded, rom = workspace.program(), workspace.rom()
+            horizon = self._followed(workspace)
+            known = Known(workspace, horizon)
+            here = known.at(0)
         except BaseException:
-            self.workspace.close()
+            workspace.close()
             raise
+        self.workspace, self.program, self.rom = workspace, loaded, rom
+        self.horizon, self.known, self.here = horizon, known, here
+
+    def _followed(self, workspace: Workspace) -> Horizon:
+        """The run, without the event in which it ends early."""
+        done, made = workspace.try_play(workspace.script(), "report")
+        if done.status in program.ENDED_EARLY:
+            self._shorten(workspace, done.status)
+            return Horizon(workspace)
+        program.accepted(done)
+        return Horizon(workspace, made["report"])
 
     def close(self) -> None:
         self.workspace.close()
@@ -83,21 +87,21 @@ class Session:
             except Failure as failure:
                 self.note(f"break {name}: {failure.line}")
 
-    def _shorten(self, status: int) -> None:
+    def _shorten(self, workspace: Workspace, status: int) -> None:
         """Leaves out the events from the one on in which the run ends early, since a log is only written at the end
         of a run."""
-        script = self.workspace.script()
+        script = workspace.script()
         least, most = -1, events.count(script)
         while most - least > 1:
             middle = (least + most) // 2
-            done, _ = self.workspace.try_play(events.prefix(script, middle))
+            done, _ = workspace.try_play(events.prefix(script, middle))
             if done.status in program.ENDED_EARLY:
                 most = middle
             else:
                 least = middle
         if least < 0:
             raise Failure(f"the run ends early with {status}, before the first event (docs/ended.md says why)", status)
-        self.workspace.shortened = events.prefix(script, least)
+        workspace.shortened = events.prefix(script, least)
         self.note(
             f"the run ends early with {status}, in event {most} of its script; this session ends behind event {least}"
         )
@@ -266,19 +270,19 @@ class Session:
     def last_store(self, watched: Watched) -> tuple[Change, State] | None:
         """The last store before the present moment that changed some bytes, and the state before it."""
         self.horizon.reach(self.here.count)
-        change, state = backwards.near_store(self.workspace, watched, self.here.count)
-        if change:
-            return change, state or self.known.at(change.place.count)
-        if self.here.count <= backwards.NEAR:
+        near = backwards.near_store(self.workspace, watched, self.here.count)
+        if near.change:
+            return near.change, near.state or self.known.at(near.change.place.count)
+        if not near.first:
             return None
-        self.note(f"none in the last {backwards.NEAR} instructions; all stores before them are looked at")
-        return self._far_store(watched, self.here.count - backwards.NEAR)
+        self.note(f"none in the last {self.here.count - near.first} instructions; all stores before them are looked at")
+        return self._far_store(watched, near)
 
-    def _far_store(self, watched: Watched, last: int) -> tuple[Change, State] | None:
+    def _far_store(self, watched: Watched, near: Near) -> tuple[Change, State] | None:
         try:
-            change = FarStores(self.workspace, self.horizon, self.rom).last(watched, last)
+            change = FarStores(self.workspace, self.horizon, self.rom).last(watched, near)
         except Unsure:
-            change = self._any_store(watched, last)
+            change = self._any_store(watched, near.first)
         return (change, self.known.at(change.place.count)) if change else None
 
     def _any_store(self, watched: Watched, last: int) -> Change | None:
