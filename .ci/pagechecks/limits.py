@@ -1,4 +1,4 @@
-"""The limits of docs/commands.md: each is that of the code, with cases on both sides (cases/limits.txt)."""
+"""The limits of docs/limits.md: each is that of the code, with cases on both sides (cases/limits.txt)."""
 from __future__ import annotations
 
 import os
@@ -9,8 +9,10 @@ from dataclasses import dataclass
 from pagechecks.console import Report
 from pagechecks.names import Repository, read
 
-PAGE = "docs/commands.md"
+PAGE = "docs/limits.md"
 TABLE = "cases/limits.txt"
+CRATE = "uxn_limits"
+NUMBERS = f"crates/{CRATE}/src/limits.rt"
 
 
 @dataclass
@@ -34,24 +36,21 @@ def limits_of_cases() -> list[Limit]:
         elif first == "past":
             limits[-1].past += rest.split()
         else:
-            name, _, constants = line.rpartition(":")
-            if "::" in line:
-                name, _, constants = line.partition(": ")
+            name, _, constants = line.partition(":")
             limits.append(Limit(name, constants.split(), [], []))
     return limits
 
 
 def limits_of_page() -> dict[str, str]:
-    """The second cell of each row of the table behind the heading `Limits`, by the first."""
-    _, _, section = read(PAGE).partition("\n## Limits\n")
-    rows = re.findall(r"(?m)^\| (.+?) \| (.+?) \|", section.partition("\n## ")[0])
+    """The second cell of each row of the page's table, by the first."""
+    rows = re.findall(r"(?m)^\| (.+?) \| (.+?) \|", read(PAGE))
     return dict(rows[1:])
 
 
 def values_of(constant: str, there: Repository) -> set[int]:
-    """The numbers that a constant of a crate has in its sources."""
-    crate, _, name = constant.partition("::")
-    sources = [file for file in there.files if re.fullmatch(rf"crates/{crate}/src/.*\.rt", file)]
+    """The numbers that a constant has in the sources of its crate, which is that of the numbers if none is named."""
+    crate, _, name = constant.rpartition("::")
+    sources = [file for file in there.files if re.fullmatch(rf"crates/{crate or CRATE}/src/.*\.rt", file)]
     found = (re.findall(rf"const {name}: \w+ = ([0-9_]+);", read(file)) for file in sources)
     return {int(number.replace("_", "")) for numbers in found for number in numbers}
 
@@ -77,6 +76,9 @@ def check(there: Repository) -> Report:
     if list(cells) != [limit.name for limit in limits]:
         differing = sorted(set(cells) ^ {limit.name for limit in limits})
         faults.append(f"{PAGE} and {TABLE} have not the same limits in the same order: {differing}")
+    named = {constant for limit in limits for constant in limit.constants}
+    unnamed = sorted(set(re.findall(r"const (\w+):", read(NUMBERS))) - named)
+    faults += [f"{TABLE}: no limit has the constant {constant} of {NUMBERS}" for constant in unnamed]
     passed = 0
     for limit in limits:
         found = list(faults_of(limit, cells.get(limit.name, ""), there))

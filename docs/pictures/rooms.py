@@ -7,7 +7,7 @@ import os
 from svg import BLUE, GREEN, GREY, ORANGE, Drawing
 
 CRATES = os.path.join(os.path.dirname(os.path.abspath(__file__)), "..", "..", "crates.txt")
-FILLS = {"the outside": GREY, "the processor": ORANGE, "the assembler": GREEN, "texts": GREEN, "the devices": BLUE, "runs": BLUE, "the program": ORANGE}
+FILLS = {"the numbers": GREY, "the outside": GREY, "the processor": ORANGE, "the assembler": GREEN, "texts": GREEN, "the devices": BLUE, "runs": BLUE, "the program": ORANGE}
 WIDTH, LEFT, ACROSS, STEP, HIGH = 860, 140, 5, 142, 26
 
 
