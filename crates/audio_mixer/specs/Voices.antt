@@ -1,5 +1,6 @@
 -- What the voices that are kept represent.
-use Rattle.std.specs.Prelude.{◌≡◌, ℕ, ◌+◌, ◌*◌, ◌%◌, ◌<◌, ◌≤◌, ◌&&◌, min, Bool, true, false, List, All, slice_index_or, ℤ, pos, Option, Some, None}
+use Rattle.std.specs.Prelude.{◌≡◌, ℕ, ◌+◌, ◌*◌, ◌%◌, ◌<◌, ◌≤◌, ◌&&◌, min, Bool, true, false}
+use Rattle.std.specs.Prelude.{List, All, slice_index_or, ℤ, pos, Option, Some, None}
 use Rattle.audio_mixer.specs.declared.notes.Start.{Start}
 use Rattle.audio_mixer.specs.declared.voices.Playing.{Playing}
 use Rattle.audio_mixer.specs.declared.voices.Voice.{Voice}
@@ -33,8 +34,10 @@ IsShort sample = added sample (pos 0) ≡ sample
 
 -- the first so many pairs of a frame have the samples of a sound added, and the others are as before
 pub record AddsSound (memory : List ℕ) (sound : Sound) (count : ℕ) (before after : List ℤ) : Type 0 where
-  pub left : (k : ℕ) → k < count → slice_index_or after (2 * k) (pos 0) ≡ added (slice_index_or before (2 * k) (pos 0)) (sample_in memory left_of sound k)
-  pub right : (k : ℕ) → k < count → slice_index_or after (2 * k + 1) (pos 0) ≡ added (slice_index_or before (2 * k + 1) (pos 0)) (sample_in memory right_of sound k)
+  pub left : (k : ℕ) → k < count → slice_index_or after (2 * k) (pos 0)
+      ≡ added (slice_index_or before (2 * k) (pos 0)) (sample_in memory left_of sound k)
+  pub right : (k : ℕ) → k < count → slice_index_or after (2 * k + 1) (pos 0)
+      ≡ added (slice_index_or before (2 * k + 1) (pos 0)) (sample_in memory right_of sound k)
   pub others : (k : ℕ) → 2 * count ≤ k → slice_index_or after k (pos 0) ≡ slice_index_or before k (pos 0)
   pub shorts : All IsShort after
 

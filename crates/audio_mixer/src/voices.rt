@@ -112,7 +112,8 @@ fn level(envelope: u32, volume: u8) -> u8
 
 impl Playing {
     ghost use Rattle.std.specs.Prelude.{◌≡◌, ℕ, ◌+◌, ◌<◌, ◌≤◌, min, true, false, All, IfSome, IfNone};
-    ghost use Rattle.audio_mixer.specs.Notes.{is_silent, is_repeating, is_released, is_played, note_has_ended, wrapped, envelope_at, heard, left_of, right_of};
+    ghost use Rattle.audio_mixer.specs.Notes.{is_silent, is_repeating, is_released, is_played, note_has_ended};
+    ghost use Rattle.audio_mixer.specs.Notes.{wrapped, envelope_at, heard, left_of, right_of};
     ghost use Rattle.audio_mixer.specs.Sounds.{output_of, Note, note_is_over, is_endless};
     ghost use Rattle.audio_mixer.specs.Voices.{Plays, IsAhead, GivesPair, IsShort, AddsSound};
 
@@ -209,7 +210,8 @@ impl Playing {
 
     /// Adds the samples of a frame, and says whether the note ends in it.
     fn add_frame(&mut self, memory: &Memory, into: &mut [i16; 1470]) -> bool
-        ensures adds { (age : ℕ) → Plays self.old self.old.start age → All IsShort into.old → AddsSound memory.now (Note self.old.start age) 735 into.old into.new }
+        ensures adds { (age : ℕ) → Plays self.old self.old.start age → All IsShort into.old
+            → AddsSound memory.now (Note self.old.start age) 735 into.old into.new }
         ensures ends { (age : ℕ) → Plays self.old self.old.start age → result ≡ note_is_over self.old.start (age + 735) }
         ensures plays { result ≡ false → (age : ℕ) → Plays self.old self.old.start age → Plays self.new self.old.start (age + 735) }
     {

@@ -40,7 +40,10 @@ prefix_in xs (y ∷ []) some more = inl (ap (join_with_byte 47) (append-nil xs))
 prefix_in xs (y ∷ z ∷ ys) some more =
     let k : suc (suc (length ys)) - 1 ≡ suc (length ys) = omega arith in
     let prefix : List (List ℕ) = y ∷ take (length ys) (z ∷ ys) in
-    inr (join_with_byte 47 prefix, ap (λ (n : ℕ). join_with_byte 47 (xs ++ take n (y ∷ z ∷ ys))) k ∙ join-append xs prefix some (omega arith))
+    inr (
+      join_with_byte 47 prefix,
+      ap (λ (n : ℕ). join_with_byte 47 (xs ++ take n (y ∷ z ∷ ys))) k ∙ join-append xs prefix some (omega arith),
+    )
 
 names_in : (xs ys : List (List ℕ)) → 0 < length xs → 0 < length ys
     → parent_from (xs ++ ys) ≡ Some (join_with_byte 47 (xs ++ take (length ys - 1) ys))

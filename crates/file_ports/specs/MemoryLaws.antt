@@ -1,5 +1,6 @@
 -- Laws of memory: an action changes no other bytes than those that a stat or a read puts there.
-use Rattle.std.specs.Prelude.{◌≡◌, ◌≢◌, ℕ, zero, suc, ◌+◌, ◌-◌, ◌/◌, ◌^◌, ◌<◌, ◌≤◌, min, nat_lt, true, false, List, [], ◌++◌}
+use Rattle.std.specs.Prelude.{◌≡◌, ◌≢◌, ℕ, zero, suc, ◌+◌, ◌-◌, ◌/◌, ◌^◌, ◌<◌}
+use Rattle.std.specs.Prelude.{◌≤◌, min, nat_lt, true, false, List, [], ◌++◌}
 use Rattle.std.specs.Prelude.{take, drop, length, replicate, Option, Some, None, slice_index, refl}
 use Rattle.std.proofs.Common.{cond, ap, ◌∙◌, arith, inl, inr}
 use Rattle.std.proofs.lemmas.Bool.{cases_Bool, cases_lt}

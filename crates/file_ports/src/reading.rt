@@ -22,7 +22,8 @@ const CHUNK: usize = 4096;
 
 /// What a device does that looks at its path to read what is there.
 fn look<T: Tree>(alloc: Global, tree: &mut T, path: &Path) -> Result<Mode, FileStop>
-    ensures mode { IfOk result (λ mode. IfSome (T.state tree.old).contents (λ nodes. mode ≡ looked (kind_at nodes path.now) (children nodes path.now))) }
+    ensures mode { IfOk result (λ mode. IfSome (T.state tree.old).contents (λ nodes. mode
+        ≡ looked (kind_at nodes path.now) (children nodes path.now))) }
     ensures tree { TreeLooked (has_failed result) (T.state tree.old) (T.state tree.new) }
     ensures folder { result ≡ Err FileStop.NoMemory → IfSome (T.state tree.old).contents (λ nodes. kind_at nodes path.now ≡ Kind.Folder) }
 {

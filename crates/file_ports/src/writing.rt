@@ -26,7 +26,8 @@ fn goes_on<T: Tree>(tree: &mut T, path: &Path, is_writing: bool, keep: bool) -> 
 /// Begins a write, and says whether bytes can be added to the file then. One that is writing goes on with the
 /// file, and so does one that keeps a file which is there; else the file is made empty.
 fn begin<T: Tree>(tree: &mut T, path: &Path, is_writing: bool, keep: bool) -> Result<bool, Failed>
-    ensures begun { IfOk result (λ goes. IfSome (T.state tree.old).contents (λ nodes. goes ≡ is_some (begun is_writing keep (observed_file nodes path.now)))) }
+    ensures begun { IfOk result (λ goes. IfSome (T.state tree.old).contents (λ nodes. goes
+        ≡ is_some (begun is_writing keep (observed_file nodes path.now)))) }
     ensures file { IfOk result (λ goes. IsTrue goes → IfSome (T.state tree.new).contents (λ nodes. IsSome (file_at nodes path.now))) }
     ensures tree { TreeEnded (changes_written is_writing keep (T.state tree.old).contents path.now []) (is_err result)
         (T.state tree.old) (T.state tree.new) }
@@ -49,7 +50,8 @@ pub(crate) fn add<T: Tree>(
     is_writing: bool,
     keep: bool,
 ) -> Result<bool, Failed>
-    ensures begun { IfOk result (λ goes. IfSome (T.state tree.old).contents (λ nodes. goes ≡ is_some (begun is_writing keep (observed_file nodes path.now)))) }
+    ensures begun { IfOk result (λ goes. IfSome (T.state tree.old).contents (λ nodes. goes
+        ≡ is_some (begun is_writing keep (observed_file nodes path.now)))) }
     ensures tree { TreeEnded (changes_written is_writing keep (T.state tree.old).contents path.now (map (λ byte. ToFile path.now byte) piece.now))
         (is_err result) (T.state tree.old) (T.state tree.new) }
     ensures refused { RefusedAtMost path.now (T.state tree.old) (T.state tree.new) }

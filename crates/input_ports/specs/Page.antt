@@ -2,7 +2,8 @@
 use Rattle.std.specs.Prelude.{ℕ, ◌==◌, if◌then◌else◌, ◌+◌, ◌-◌, ◌/◌, ◌%◌, List, [], ◌∷◌}
 use Rattle.std.specs.Prelude.{◌++◌, slice_set, bit_and, bit_or}
 use Rattle.std.specs.Int.{w16, cast_unsigned}
-use Rattle.uxn_limits.specs.declared.ports.TheConstants.{CONTROLLER_VECTOR, CONTROLLER_BUTTON, CONTROLLER_KEY, CONTROLLER_P2, CONTROLLER_P3, CONTROLLER_P4}
+use Rattle.uxn_limits.specs.declared.ports.TheConstants.{CONTROLLER_VECTOR, CONTROLLER_BUTTON, CONTROLLER_KEY}
+use Rattle.uxn_limits.specs.declared.ports.TheConstants.{CONTROLLER_P2, CONTROLLER_P3, CONTROLLER_P4}
 use Rattle.uxn_limits.specs.declared.ports.TheConstants.{MOUSE_VECTOR, MOUSE_X, MOUSE_Y, MOUSE_STATE, MOUSE_SCROLL_X, MOUSE_SCROLL_Y}
 use Rattle.input_ports.specs.declared.Input.{Input}
 use Rattle.input_ports.specs.declared.Input.TheVariants.{Key, Down, Up, Mouse, Press, Release, Scroll, DownOf, UpOf}

@@ -62,7 +62,8 @@ fn widen(colour: [u8; 3]) -> [u8; 4]
 // The colour whose nibbles have this weight in their shorts.
 fn colour(ports: &[u8; 6], weight: u16) -> [u8; 3]
     requires { 0 < weight }
-    ensures { result ≡ colour_short ports.now 0 / weight % 16 * 17 ∷ colour_short ports.now 2 / weight % 16 * 17 ∷ colour_short ports.now 4 / weight % 16 * 17 ∷ [] }
+    ensures { result ≡ colour_short ports.now 0 / weight % 16 * 17 ∷ colour_short ports.now 2 / weight % 16 * 17
+        ∷ colour_short ports.now 4 / weight % 16 * 17 ∷ [] }
 {
     let [red, next_red, green, next_green, blue, next_blue] = *ports;
     [

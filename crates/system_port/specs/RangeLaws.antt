@@ -1,5 +1,6 @@
 -- Laws of ranges: what fills, copies and records leave alone.
-use Rattle.std.specs.Prelude.{◌≡◌, ◌≢◌, ℕ, zero, suc, ◌+◌, ◌<◌, ◌≤◌, nat_lt, Bool, true, false, List, length, slice_index, slice_set, refl}
+use Rattle.std.specs.Prelude.{◌≡◌, ◌≢◌, ℕ, zero, suc, ◌+◌, ◌<◌, ◌≤◌, nat_lt, Bool}
+use Rattle.std.specs.Prelude.{true, false, List, length, slice_index, slice_set, refl}
 use Rattle.std.proofs.Common.{cond, ◌∙◌, arith}
 use Rattle.std.proofs.lemmas.List.{get_or-set_other, length-set}
 use Rattle.uxn_memory.specs.Bytes.{bank_place, copied, filled, copied_up, copied_down}

@@ -1,6 +1,7 @@
 -- What the lines of a text give, or the first faulty line with its fault (profile). A line is validated by itself first: it gives
 -- something, or nothing, or has a fault; then what it gives is validated by what the lines before it gave.
-use Rattle.std.specs.Prelude.{◌≡◌, ℕ, ◌+◌, Bool, nat_lt, if◌then◌else◌, length, List, [], ◌∷◌, ◌++◌, map, Option, Some, None}
+use Rattle.std.specs.Prelude.{◌≡◌, ℕ, ◌+◌, Bool, nat_lt, if◌then◌else◌, length}
+use Rattle.std.specs.Prelude.{List, [], ◌∷◌, ◌++◌, map, Option, Some, None}
 use Rattle.std.specs.Prelude.{Result, Ok, Err}
 use Rattle.text_lines.specs.Lines.{lines_of, words_of}
 
@@ -34,7 +35,8 @@ abbrev pub each_line : {A K : Type 0} → (List (List ℕ) → Line A K) → Lis
 each_line line_of lines = map (λ line. line_of (words_of line)) lines
 
 -- what the lines of a text give, which has at most so many bytes
-abbrev pub text_by : {A K : Type 0} → ℕ → K → (List A → A → Option K) → (List (List ℕ) → Line A K) → List ℕ → Result (List A) (ℕ × K)
+abbrev pub text_by : {A K : Type 0} → ℕ → K → (List A → A → Option K)
+    → (List (List ℕ) → Line A K) → List ℕ → Result (List A) (ℕ × K)
 text_by limit long fault line_of text =
     if nat_lt limit (length text) then Err (1, long) else given fault 1 [] (each_line line_of (lines_of text))
 

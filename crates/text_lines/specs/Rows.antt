@@ -51,7 +51,8 @@ keyword_of rows (name ∷ values) =
     else made (λ keyword. Some (keyword, values)) (counted (keyword_row rows name) (length values))
 
 -- what a line gives, by what its keyword and values give and by what a fault of its words is
-abbrev pub line_by : {K A F : Type 0} → (LineFault → F) → (K → List (List ℕ) → Result A F) → Line (K × List (List ℕ)) LineFault → Line A F
+abbrev pub line_by : {K A F : Type 0} → (LineFault → F) → (K → List (List ℕ) → Result A F)
+    → Line (K × List (List ℕ)) LineFault → Line A F
 line_by kind meaning (Ok None) = Ok None
 line_by kind meaning (Ok (Some said)) = made Some (meaning said.0 said.1)
 line_by kind meaning (Err fault) = Err (kind fault)

@@ -19,6 +19,7 @@ pub looked_too : (failed : Bool) (before now : TreeState) (requests later : Opti
 looked_too failed before now requests later p =
     record { contents = p.contents; counted = p.counted; refusals = p.refusals; blamed = p.blamed; left = p.left }
 
-pub ended_too : (changes : List Change) (failed : Bool) (before now : TreeState) (requests later : Option (Vec TreeRequest)) → TreeEnded changes failed before now
+pub ended_too : (changes : List Change) (failed : Bool) (before now : TreeState) (requests later : Option (Vec TreeRequest))
+    → TreeEnded changes failed before now
     → TreeEnded changes failed (telling_tree before requests) (telling_tree now later)
 ended_too changes failed before now requests later p = record { stands = p.stands; counted = p.counted; blamed = p.blamed; left = p.left }

@@ -39,7 +39,8 @@ changed_by-file world path (byte ∷ text) =
     ∙ ap (λ contents. record world { files = contents }) (appended_known world.files path (byte ∷ []) text)
 
 -- the same of the known contents of a tree
-pub contents_after-file : (contents : Option Nodes) (path text : List ℕ) → contents_after (appending path text) contents ≡ option_map (with_appended path text) contents
+pub contents_after-file : (contents : Option Nodes) (path text : List ℕ)
+    → contents_after (appending path text) contents ≡ option_map (with_appended path text) contents
 contents_after-file contents path [] = sym (appended-nothing path contents)
 contents_after-file contents path (byte ∷ text) =
     contents_after-file (option_map (with_appended path (byte ∷ [])) contents) path text ∙ appended_known contents path (byte ∷ []) text

@@ -18,7 +18,8 @@ use Rattle.uxn_io_traits.specs.Room.{Room}
 use Rattle.uxn_io_traits.specs.State.{TreeState}
 use Rattle.uxn_io_traits.specs.Taking.{TreeTakes, TreeLeft, files_made, files_gone}
 use Rattle.uxn_io_traits.specs.TakingLaws.{takes-later}
-use Rattle.uxn_io_traits.specs.Ended.{contents_after, StandsAfter, TakesChanges, IsLeft, TreeEnded, TreeLooked, Refused, creating, removing, appending}
+use Rattle.uxn_io_traits.specs.Ended.{contents_after, StandsAfter, TakesChanges, IsLeft, TreeEnded}
+use Rattle.uxn_io_traits.specs.Ended.{TreeLooked, Refused, creating, removing, appending}
 use Rattle.uxn_io_traits.specs.EndedLaws.{contents_after-none, tree-then}
 
 -- of a tree of unknown contents and promises nothing only what it counts is known
@@ -76,8 +77,10 @@ nothing-made changes before now contents counted unsure = record {
 }
 
 -- a call that did not fail
-pub all-made : (changes : List Change) (before now : TreeState) → now.contents ≡ contents_after changes before.contents → Counted before.tally now.tally false
-    → (TakesChanges before.guaranteed before.contents changes → IsLeft before.guaranteed now.guaranteed before.contents changes) → TreeEnded changes false before now
+pub all-made : (changes : List Change) (before now : TreeState) → now.contents ≡ contents_after changes before.contents
+    → Counted before.tally now.tally false
+    → (TakesChanges before.guaranteed before.contents changes → IsLeft before.guaranteed now.guaranteed before.contents changes)
+    → TreeEnded changes false before now
 all-made changes before now contents counted left = record {
   stands = contents;
   counted = counted;
@@ -91,7 +94,8 @@ takes-some room nodes changes takes = let none = takes.files [] changes refl in 
 
 module _ (path : List ℕ) where
   -- a file made empty, where it can be
-  pub contents_after-creating : (contents : Option Nodes) → contents_after (creating contents path) contents ≡ option_map (with_created path) contents
+  pub contents_after-creating : (contents : Option Nodes)
+      → contents_after (creating contents path) contents ≡ option_map (with_created path) contents
   contents_after-creating None = refl
   contents_after-creating (Some nodes) = by (can_create nodes path)
     where
@@ -114,7 +118,8 @@ module _ (path : List ℕ) where
           let some = takes-some room nodes [] takes in let none = new-none nodes can in omega (arith, some, none)
 
   -- a file taken away, where one is there
-  pub contents_after-removing : (contents : Option Nodes) → contents_after (removing contents path) contents ≡ option_map (with_removed path) contents
+  pub contents_after-removing : (contents : Option Nodes)
+      → contents_after (removing contents path) contents ≡ option_map (with_removed path) contents
   contents_after-removing None = refl
   contents_after-removing (Some nodes) = by (is_some (file_at nodes path))
     where
@@ -186,7 +191,8 @@ pub still_file : (path text : List ℕ) (a b : TreeState) → TreeEnded (appendi
     → IfSome a.contents (λ nodes. IsSome (file_at nodes path)) → IfSome b.contents (λ nodes. IsSome (file_at nodes path))
 still_file path text a b ended = by a.contents (ended.stands ∙ contents_after-file a.contents path text)
   where
-    by : (contents : Option Nodes) → b.contents ≡ option_map (with_appended path text) contents → IfSome contents (λ nodes. IsSome (file_at nodes path))
+    by : (contents : Option Nodes) → b.contents ≡ option_map (with_appended path text) contents
+        → IfSome contents (λ nodes. IsSome (file_at nodes path))
         → IfSome b.contents (λ nodes. IsSome (file_at nodes path))
     by None is file = rw is tt
     by (Some nodes) is file = rw is (kept_file nodes path text file)

@@ -52,7 +52,8 @@ pub extended-nothing : (contents : Option (List ℕ)) → extended contents [] �
 extended-nothing None = refl
 extended-nothing (Some bytes) = ap (λ b. Some b) (append-nil bytes)
 
-pub extended-extended : (contents : Option (List ℕ)) (first more : List ℕ) → extended (extended contents first) more ≡ extended contents (first ++ more)
+pub extended-extended : (contents : Option (List ℕ)) (first more : List ℕ)
+    → extended (extended contents first) more ≡ extended contents (first ++ more)
 extended-extended None first more = refl
 extended-extended (Some bytes) first more = ap (λ b. Some b) (append_assoc bytes first more)
 

@@ -1,5 +1,6 @@
 -- How a call ended that was to make changes outside: it made all of them, or it stopped and made a prefix of them (profile).
-use Rattle.std.specs.Prelude.{◌≡◌, ℕ, ◌+◌, ◌<◌, ◌≤◌, Bool, true, false, List, [], ◌∷◌, ◌++◌, ◌⊎◌, length, take, map}
+use Rattle.std.specs.Prelude.{◌≡◌, ℕ, ◌+◌, ◌<◌, ◌≤◌, Bool, true, false}
+use Rattle.std.specs.Prelude.{List, [], ◌∷◌, ◌++◌, ◌⊎◌, length, take, map}
 use Rattle.std.specs.Prelude.{Option, Some, None, Result, Ok, Err, is_some, if◌then◌else◌}
 use Rattle.std.specs.Option.{option_map}
 use Rattle.uxn_io_traits.specs.declared.refused.RefusedFiles.{RefusedFiles}
@@ -44,7 +45,8 @@ pub record TreeEnded (changes : List Change) (failed : Bool) (before now : TreeS
   pub stands : StandsAfter changes failed before.contents now.contents
   pub counted : Counted before.tally now.tally failed
   pub blamed : failed ≡ true → TakesChanges before.guaranteed before.contents changes → ⊥
-  pub left : failed ≡ false → TakesChanges before.guaranteed before.contents changes → IsLeft before.guaranteed now.guaranteed before.contents changes
+  pub left : failed ≡ false → TakesChanges before.guaranteed before.contents changes
+      → IsLeft before.guaranteed now.guaranteed before.contents changes
 
 -- with one refused file more, if one was refused
 abbrev pub refused_also : Option (List ℕ) → RefusedFiles → RefusedFiles
@@ -70,7 +72,8 @@ pub record TreeLooked (failed : Bool) (before now : TreeState) : Type 0 where
   pub counted : Counted before.tally now.tally failed
   pub refusals : Refused None before now
   pub blamed : failed ≡ true → 0 < before.guaranteed.files → ⊥
-  pub left : failed ≡ false → 0 < before.guaranteed.files → (before.guaranteed.files ≤ now.guaranteed.files) × (before.guaranteed.bytes ≤ now.guaranteed.bytes)
+  pub left : failed ≡ false → 0 < before.guaranteed.files
+      → (before.guaranteed.files ≤ now.guaranteed.files) × (before.guaranteed.bytes ≤ now.guaranteed.bytes)
 
 -- the changes that the calls of a tree are to make: a file made empty, where one can be created; a file taken away, where one is
 -- there; bytes appended to a file. Of a tree of unknown contents it is not guaranteed that it can create

@@ -18,11 +18,13 @@ use Rattle.uxn_io_traits.specs.State.{TreeState, SinkState, Outside, outside}
 use Rattle.uxn_io_traits.specs.Taking.{TreeTakes, TreeLeft, Remains, WasNotGuaranteed, bytes_out, bytes_err, files_made, files_gone}
 use Rattle.uxn_io_traits.specs.TakingLaws.{takes-first, takes-later, left-both, remains-all, remains-both, not-guaranteed-first, not-guaranteed-later}
 use Rattle.uxn_io_traits.specs.Known.{extended}
-use Rattle.uxn_io_traits.specs.Ended.{contents_after, StandsAfter, TakesChanges, IsLeft, TreeEnded, TreeLooked, Refused, RefusedAtMost, RefusesNone, refused_also, refused_file, HoldsAfter, SinkEnded}
+use Rattle.uxn_io_traits.specs.Ended.{contents_after, StandsAfter, TakesChanges, IsLeft, TreeEnded, TreeLooked, Refused}
+use Rattle.uxn_io_traits.specs.Ended.{RefusedAtMost, RefusesNone, refused_also, refused_file, HoldsAfter, SinkEnded}
 use Rattle.uxn_io_traits.specs.Ended.{Done, CutShort, Ended, IsOfTree, AreOfTree, blame_of_tree, blame_of_sink, to_out, to_err}
 
 -- what is known after changes, and then more
-pub contents_after-append : (contents : Option Nodes) (first more : List Change) → contents_after (first ++ more) contents ≡ contents_after more (contents_after first contents)
+pub contents_after-append : (contents : Option Nodes) (first more : List Change)
+    → contents_after (first ++ more) contents ≡ contents_after more (contents_after first contents)
 contents_after-append contents [] more = refl
 contents_after-append contents (change ∷ first) more = contents_after-append (option_map (changed_files change) contents) first more
 
@@ -34,24 +36,28 @@ pub contents_after-none : (changes : List Change) → contents_after changes Non
 contents_after-none [] = refl
 contents_after-none (change ∷ changes) = contents_after-none changes
 
-pub contents_after-map : (contents : Option Nodes) (changes : List Change) → contents_after changes contents ≡ option_map (λ nodes. files_by nodes changes) contents
+pub contents_after-map : (contents : Option Nodes) (changes : List Change)
+    → contents_after changes contents ≡ option_map (λ nodes. files_by nodes changes) contents
 contents_after-map None changes = contents_after-none changes
 contents_after-map (Some nodes) changes = contents_after-some nodes changes
 
 -- what is guaranteed to be made of changes is made of their first part, and then, with what is left, the rest
-pub takes-prefix : (room : Room) (contents : Option Nodes) (first more : List Change) → TakesChanges room contents (first ++ more) → TakesChanges room contents first
+pub takes-prefix : (room : Room) (contents : Option Nodes) (first more : List Change)
+    → TakesChanges room contents (first ++ more) → TakesChanges room contents first
 takes-prefix room None [] more takes = (takes.0, refl)
 takes-prefix room None (change ∷ first) more takes = let no : change ∷ (first ++ more) ≡ [] = takes.1 in cc
 takes-prefix room (Some nodes) first more takes = takes-first room nodes first more takes
 
-takes-rest : (room now : Room) (contents : Option Nodes) (first more : List Change) → TakesChanges room contents (first ++ more) → IsLeft room now contents first
+takes-rest : (room now : Room) (contents : Option Nodes) (first more : List Change)
+    → TakesChanges room contents (first ++ more) → IsLeft room now contents first
     → TakesChanges now (contents_after first contents) more
 takes-rest room now None [] more takes left = (omega (arith, takes.0, left.0), takes.1)
 takes-rest room now None (change ∷ first) more takes left = let no : change ∷ (first ++ more) ≡ [] = takes.1 in cc
 takes-rest room now (Some nodes) first more takes left =
     subst (λ contents. TakesChanges now contents more) (sym (contents_after-some nodes first)) (takes-later room now nodes first more takes left)
 
-left-then : (a b c : Room) (contents : Option Nodes) (first more : List Change) → IsLeft a b contents first → IsLeft b c (contents_after first contents) more
+left-then : (a b c : Room) (contents : Option Nodes) (first more : List Change) → IsLeft a b contents first
+    → IsLeft b c (contents_after first contents) more
     → IsLeft a c contents (first ++ more)
 left-then a b c None first more p q =
     let rest = subst (λ contents. IsLeft b c contents more) (contents_after-none first) q in (omega (arith, p.0, rest.0), omega (arith, p.1, rest.1))
@@ -85,7 +91,8 @@ looked-then failed a b c p q = record {
 pub refused-looked : (file : Option (List ℕ)) (a b c : TreeState) → TreeLooked false a b → Refused file b c → Refused file a c
 refused-looked file a b c looked is = λ exact. is (looked.counted.promise ∙ exact) ∙ ap (refused_also file) (looked.refusals exact)
 
-pub at-most-created : (path : List ℕ) (a b : TreeState) (result : Result Bool Failed) → Refused (refused_file path result) a b → RefusedAtMost path a b
+pub at-most-created : (path : List ℕ) (a b : TreeState) (result : Result Bool Failed)
+    → Refused (refused_file path result) a b → RefusedAtMost path a b
 at-most-created path a b (Ok true) is = inl is
 at-most-created path a b (Ok false) is = inr is
 at-most-created path a b (Err failed) is = inl is
@@ -101,7 +108,8 @@ refuses-nothing now = record { exact = refl; none = λ _. refl }
 pub refuses-then : (a b c : TreeState) → RefusesNone a b → RefusesNone b c → RefusesNone a c
 refuses-then a b c p q = record { exact = q.exact ∙ p.exact; none = λ exact. q.none (p.exact ∙ exact) ∙ p.none exact }
 
-pub at-most-on : (path : List ℕ) (failed : Bool) (changes : List Change) (a b c : TreeState) → TreeEnded changes failed a b → RefusedAtMost path a b
+pub at-most-on : (path : List ℕ) (failed : Bool) (changes : List Change) (a b c : TreeState)
+    → TreeEnded changes failed a b → RefusedAtMost path a b
     → Refused None b c → RefusedAtMost path a c
 at-most-on path failed changes a b c ended (inl p) q = inl (λ exact. q (ended.counted.promise ∙ exact) ∙ p exact)
 at-most-on path failed changes a b c ended (inr p) q = inr (λ exact. q (ended.counted.promise ∙ exact) ∙ p exact)
@@ -123,7 +131,8 @@ looked-ended failed before now looked = record {
     some None takes = takes.0
     some (Some nodes) takes = let first = takes.files [] [] refl in omega (arith, first)
 
-    still : (contents : Option Nodes) → 0 < before.guaranteed.files → (before.guaranteed.files ≤ now.guaranteed.files) × (before.guaranteed.bytes ≤ now.guaranteed.bytes)
+    still : (contents : Option Nodes) → 0 < before.guaranteed.files
+        → (before.guaranteed.files ≤ now.guaranteed.files) × (before.guaranteed.bytes ≤ now.guaranteed.bytes)
         → IsLeft before.guaranteed now.guaranteed contents []
     still None is left = left
     still (Some nodes) is left = record { files = omega (arith, left.0); bytes = left.1 }
@@ -153,7 +162,8 @@ tree-then first more failed a b c p q = record {
     begun takes = p.left refl (takes-prefix a.guaranteed a.contents first more takes)
 
     rest : TakesChanges a.guaranteed a.contents (first ++ more) → TakesChanges b.guaranteed b.contents more
-    rest takes = subst (λ contents. TakesChanges b.guaranteed contents more) (sym p.stands) (takes-rest a.guaranteed b.guaranteed a.contents first more takes (begun takes))
+    rest takes = subst (λ contents. TakesChanges b.guaranteed contents more) (sym p.stands)
+        (takes-rest a.guaranteed b.guaranteed a.contents first more takes (begun takes))
 
 -- a call that failed, where more was to come
 pub tree-first : (first more : List Change) (a b : TreeState) → TreeEnded first true a b → TreeEnded (first ++ more) true a b
@@ -198,7 +208,8 @@ sink-then first more failed a b c p q = record {
       count = length first + prefix.count;
       within = omega (arith, prefix.within, length-append first more);
       taken = prefix.taken ∙ ap (λ contents. extended contents (take prefix.count more)) p.holds
-          ∙ extended-extended a.contents first (take prefix.count more) ∙ ap (extended a.contents) (sym (take-append-add first more prefix.count));
+          ∙ extended-extended a.contents first (take prefix.count more)
+          ∙ ap (extended a.contents) (sym (take-append-add first more prefix.count));
     }
 
 -- nothing was done outside
@@ -211,7 +222,8 @@ pub ended-then : (first more : List Change) (stop : Option Blame) (a b c : Outsi
 ended-then first more None a b c p q = record {
   world = q.world ∙ ap (λ world. changed_by world more) p.world ∙ sym (changed_by-append a.world first more);
   ledger = ledger-then a.faults b.faults c.faults Nobody p.ledger q.ledger;
-  remains = remains-both a.guaranteed b.guaranteed c.guaranteed a.world.files first more p.remains (subst (λ contents. Remains b.guaranteed c.guaranteed contents more) contents q.remains);
+  remains = remains-both a.guaranteed b.guaranteed c.guaranteed a.world.files first more p.remains
+      (subst (λ contents. Remains b.guaranteed c.guaranteed contents more) contents q.remains);
 }
   where
     contents : b.world.files ≡ option_map (λ nodes. files_by nodes first) a.world.files
@@ -263,7 +275,8 @@ outside-of-tree changes false before now out err of p = record {
   remains = record { tree = left before.contents (p.left refl); out = omega arith; err = omega arith };
 }
   where
-    left : (contents : Option Nodes) → (TakesChanges before.guaranteed contents changes → IsLeft before.guaranteed now.guaranteed contents changes)
+    left : (contents : Option Nodes) → (TakesChanges before.guaranteed contents changes
+        → IsLeft before.guaranteed now.guaranteed contents changes)
         → IfSome contents (λ nodes. TreeTakes before.guaranteed nodes changes → TreeLeft before.guaranteed now.guaranteed nodes changes)
     left None is = tt
     left (Some nodes) is = is
@@ -314,7 +327,8 @@ outside-of-out bytes false files before now err p = record {
 }
   where
     same : (contents : Option Nodes)
-        → IfSome contents (λ nodes. TreeTakes files.guaranteed nodes (to_out bytes) → TreeLeft files.guaranteed files.guaranteed nodes (to_out bytes))
+        → IfSome contents (λ nodes. TreeTakes files.guaranteed nodes (to_out bytes)
+        → TreeLeft files.guaranteed files.guaranteed nodes (to_out bytes))
     same None = tt
     same (Some nodes) = λ _. let none = to_out-files nodes bytes in record { files = omega (arith, none.0, none.1); bytes = omega arith }
 outside-of-out bytes true files before now err p = record {
@@ -337,7 +351,8 @@ outside-of-err bytes false files out before now p = record {
 }
   where
     same : (contents : Option Nodes)
-        → IfSome contents (λ nodes. TreeTakes files.guaranteed nodes (to_err bytes) → TreeLeft files.guaranteed files.guaranteed nodes (to_err bytes))
+        → IfSome contents (λ nodes. TreeTakes files.guaranteed nodes (to_err bytes)
+        → TreeLeft files.guaranteed files.guaranteed nodes (to_err bytes))
     same None = tt
     same (Some nodes) = λ _. let none = to_err-files nodes bytes in record { files = omega (arith, none.0, none.1); bytes = omega arith }
 outside-of-err bytes true files out before now p = record {

@@ -2,15 +2,9 @@
 use Rattle.std.specs.Prelude.{◌≡◌, ℕ, zero, suc, ◌<◌, List, [], ◌∷◌, ◌++◌, Option, Some, None, IsSome, refl}
 use Rattle.std.specs.Option.{option_map}
 use Rattle.std.proofs.Common.{ap, sym, subst, ◌∙◌, append_assoc, arith}
-use Rattle.std.proofs.lemmas.List.{append-nil}
 use Rattle.uxn_io_traits.specs.Requests.{begins_reading, Receives}
 use Rattle.uxn_io_traits.specs.declared.requests.TreeRequest.{TreeRequest}
 use Rattle.uxn_io_traits.specs.declared.requests.TreeRequest.TheVariants.{Reads}
-
--- nothing was requested
-pub receives-nothing : (now : Option (List TreeRequest)) → Receives [] now now
-receives-nothing None = λ is. refl
-receives-nothing (Some requests) = λ is. ap (λ (all : List TreeRequest). Some all) (sym (append-nil requests))
 
 module _ (first more : List TreeRequest) where
   -- who tells them after more tells them before it
@@ -51,7 +45,8 @@ reads-once path at from a b c is p q =
     (receives-then _ _ a b c p (subst (λ place. Receives (begins_reading path place) b c) is q))
 
 -- up to a later byte
-pub reads-later : (path : List ℕ) (at from later : ℕ) (a b c : Option (List TreeRequest)) → from ≡ at → 0 < later → Receives (reads_begun path at) a b
+pub reads-later : (path : List ℕ) (at from later : ℕ) (a b c : Option (List TreeRequest))
+    → from ≡ at → 0 < later → Receives (reads_begun path at) a b
     → Receives (begins_reading path from) b c → Receives (reads_begun path later) a c
 reads-later path at from later a b c is some p q =
     subst (λ requests. Receives requests a c) (sym (begun-some path later some)) (reads-once path at from a b c is p q)

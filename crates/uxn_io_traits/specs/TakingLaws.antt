@@ -83,7 +83,8 @@ remains-both a b c contents first more p q = record {
         left-both a.tree b.tree c.tree nodes first more left (y (takes-later a.tree b.tree nodes first more takes left))
 
 -- what was not guaranteed to be taken of a prefix, or of what comes after it, was not guaranteed to be taken of both
-pub not-guaranteed-first : (blame : Blame) (before : Guaranteed) (contents : Option Nodes) (first more : List Change) → WasNotGuaranteed blame before contents first
+pub not-guaranteed-first : (blame : Blame) (before : Guaranteed) (contents : Option Nodes) (first more : List Change)
+    → WasNotGuaranteed blame before contents first
     → WasNotGuaranteed blame before contents (first ++ more)
 not-guaranteed-first Nobody before contents first more not = tt
 not-guaranteed-first TheTree before None first more not = tt

@@ -23,7 +23,8 @@ pub looked : (failed : Bool) (before now : ℕ) (refused later : RefusedFiles) �
 looked failed before now refused later counted same = unknown-looked failed _ _ refl refl refl (λ _. same) counted
 
 -- a call that was to change it
-pub ended : (changes : List Change) (failed : Bool) (before now : ℕ) (refused later : RefusedFiles) → Counted (exactly before) (exactly now) failed
+pub ended : (changes : List Change) (failed : Bool) (before now : ℕ) (refused later : RefusedFiles)
+    → Counted (exactly before) (exactly now) failed
     → TreeEnded changes failed (unknown_tree before refused) (unknown_tree now later)
 ended changes failed before now refused later counted = unknown-ended changes failed _ _ refl refl refl counted
 

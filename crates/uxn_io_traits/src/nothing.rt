@@ -1,11 +1,13 @@
 //! An outside that is not there: a sink that keeps nothing, and a tree in which nothing is.
-ghost use Rattle.std.specs.Prelude.{◌≡◌, ◌<◌, ◌≤◌, Ok, None, [], ◌∷◌, length, take, drop, false, is_err, is_some, IsTrue, IsSome, IsOk, IfOk, IfSome, OnOk, OnErr};
+ghost use Rattle.std.specs.Prelude.{◌≡◌, ◌<◌, ◌≤◌, Ok, None, [], ◌∷◌, length, take, drop, false};
+ghost use Rattle.std.specs.Prelude.{is_err, is_some, IsTrue, IsSome, IsOk, IfOk, IfSome, OnOk, OnErr};
 ghost use Rattle.std.specs.List.{All};
 ghost use Rattle.std.specs.FinMap as map;
 ghost use Rattle.uxn_io_traits.specs.Files.{IsTree, kind_at, file_at, file_bytes_from, is_folder, GivesBytes};
 ghost use Rattle.uxn_io_traits.specs.Changes.{can_create};
 ghost use Rattle.uxn_io_traits.specs.Children.{children, IsEntry, has_failed as names_failed};
-ghost use Rattle.uxn_io_traits.specs.Ended.{SinkEnded, SinkFailed, TreeLooked, TreeEnded, Refused, creating, removing, appending, portion, refused_file};
+ghost use Rattle.uxn_io_traits.specs.Ended.{SinkEnded, SinkFailed, TreeLooked, TreeEnded, Refused};
+ghost use Rattle.uxn_io_traits.specs.Ended.{creating, removing, appending, portion, refused_file};
 ghost use Rattle.uxn_io_traits.specs.Requests.{Receives, begins_reading};
 ghost use Rattle.uxn_io_traits.specs.declared.requests.TreeRequest.TheVariants.{LooksAt, Lists, Makes, AppendsTo, TakesAway};
 ghost use Rattle.uxn_io_traits.specs.declared.trees.Kind.TheVariants as kinds;
@@ -59,7 +61,8 @@ impl Tree for NoTree {
     fn read(&mut self, _path: &Path, _from: u64, into: &mut [u8]) -> Result<usize, Failed>
         ensures count { IfOk result (λ n. n ≤ length into.old) }
         ensures rest { IfOk result (λ n. drop n into.new ≡ drop n into.old) }
-        ensures answer { IfOk result (λ n. IfSome (state_of_no_tree self.old).contents (λ nodes. GivesBytes (file_bytes_from nodes _path.now _from) into.old into.new n)) }
+        ensures answer { IfOk result (λ n. IfSome (state_of_no_tree self.old).contents
+            (λ nodes. GivesBytes (file_bytes_from nodes _path.now _from) into.old into.new n)) }
         ensures looked { TreeLooked (is_err result) (state_of_no_tree self.old) (state_of_no_tree self.new) }
         ensures requests { Receives (begins_reading _path.now _from) (state_of_no_tree self.old).requests (state_of_no_tree self.new).requests }
 
@@ -72,7 +75,8 @@ impl Tree for NoTree {
     /// Makes nothing.
     fn create(&mut self, _path: &Path) -> Result<bool, Failed>
         ensures answer { IfOk result (λ made. IfSome (state_of_no_tree self.old).contents (λ nodes. made ≡ can_create nodes _path.now)) }
-        ensures ended { TreeEnded (creating (state_of_no_tree self.old).contents _path.now) (is_err result) (state_of_no_tree self.old) (state_of_no_tree self.new) }
+        ensures ended { TreeEnded (creating (state_of_no_tree self.old).contents _path.now) (is_err result)
+            (state_of_no_tree self.old) (state_of_no_tree self.new) }
         ensures refused { Refused (refused_file _path.now result) (state_of_no_tree self.old) (state_of_no_tree self.new) }
         ensures requests { Receives (Makes _path.now ∷ []) (state_of_no_tree self.old).requests (state_of_no_tree self.new).requests }
 
@@ -86,7 +90,8 @@ impl Tree for NoTree {
         requires { IfSome (state_of_no_tree self.old).contents (λ nodes. IsSome (file_at nodes _path.now)) }
         ensures count { IfOk result (λ n. n ≤ length piece.now) }
         ensures some { IfOk result (λ n. 0 < length piece.now → 0 < n) }
-        ensures ended { TreeEnded (appending _path.now (portion result piece.now)) (is_err result) (state_of_no_tree self.old) (state_of_no_tree self.new) }
+        ensures ended { TreeEnded (appending _path.now (portion result piece.now)) (is_err result) (state_of_no_tree self.old)
+            (state_of_no_tree self.new) }
         ensures refused { Refused None (state_of_no_tree self.old) (state_of_no_tree self.new) }
         ensures requests { Receives (AppendsTo _path.now ∷ []) (state_of_no_tree self.old).requests (state_of_no_tree self.new).requests }
 
@@ -98,7 +103,8 @@ impl Tree for NoTree {
     /// Takes nothing away.
     fn remove(&mut self, _path: &Path) -> Result<bool, Failed>
         ensures answer { IfOk result (λ gone. IfSome (state_of_no_tree self.old).contents (λ nodes. gone ≡ is_some (file_at nodes _path.now))) }
-        ensures ended { TreeEnded (removing (state_of_no_tree self.old).contents _path.now) (is_err result) (state_of_no_tree self.old) (state_of_no_tree self.new) }
+        ensures ended { TreeEnded (removing (state_of_no_tree self.old).contents _path.now) (is_err result)
+            (state_of_no_tree self.old) (state_of_no_tree self.new) }
         ensures refused { Refused None (state_of_no_tree self.old) (state_of_no_tree self.new) }
         ensures requests { Receives (TakesAway _path.now ∷ []) (state_of_no_tree self.old).requests (state_of_no_tree self.new).requests }
 

@@ -2,7 +2,8 @@
 ghost use Rattle.std.specs.Prelude.{◌≡◌, ℕ, ◌-◌, ◌≤◌, ◌∷◌, ◌++◌, ◌&&◌, ◌↔◌, length, replicate, IsTrue, IfSome, Ok, None, MatchOption};
 ghost use Rattle.std.specs.List.{list_all, list_any};
 ghost use Rattle.std.specs.Str.{is_utf8};
-ghost use Rattle.uxn_io_traits.specs.PathText.{path_of, components, is_component, is_bad_byte, is_too_long, joined, parent_of, child_name, is_under, HasNoSlashFrom, IsLastSlash, ContinuesAfter};
+ghost use Rattle.uxn_io_traits.specs.PathText.{path_of, components, is_component, is_bad_byte, is_too_long, joined};
+ghost use Rattle.uxn_io_traits.specs.PathText.{parent_of, child_name, is_under, HasNoSlashFrom, IsLastSlash, ContinuesAfter};
 
 use arrayvec::ArrayVec;
 use std::marker::Model;

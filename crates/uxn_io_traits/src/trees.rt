@@ -70,7 +70,8 @@ pub trait Tree {
     fn read(&mut self, path: &Path, from: u64, into: &mut [u8]) -> Result<usize, Failed>
         ensures count { IfOk result (λ n. n ≤ length into.old) }
         ensures rest { IfOk result (λ n. drop n into.new ≡ drop n into.old) }
-        ensures answer { IfOk result (λ n. IfSome (state self.old).contents (λ nodes. GivesBytes (file_bytes_from nodes path.now from) into.old into.new n)) }
+        ensures answer { IfOk result (λ n. IfSome (state self.old).contents
+            (λ nodes. GivesBytes (file_bytes_from nodes path.now from) into.old into.new n)) }
         ensures looked { TreeLooked (is_err result) (state self.old) (state self.new) }
         ensures requests { Receives (begins_reading path.now from) (state self.old).requests (state self.new).requests };
 

@@ -29,12 +29,15 @@ abbrev pub operation_rows : List (List ℕ × Option Op)
 operation_rows =
     (codes "LIT", None) ∷ (codes "INC", Some Inc) ∷ (codes "POP", Some (Stack Pop)) ∷ (codes "NIP", Some (Stack Nip))
     ∷ (codes "SWP", Some (Stack Swp)) ∷ (codes "ROT", Some (Stack Rot)) ∷ (codes "DUP", Some (Stack Dup)) ∷ (codes "OVR", Some (Stack Ovr))
-    ∷ (codes "EQU", Some (Compare Equ)) ∷ (codes "NEQ", Some (Compare Neq)) ∷ (codes "GTH", Some (Compare Gth)) ∷ (codes "LTH", Some (Compare Lth))
+    ∷ (codes "EQU", Some (Compare Equ)) ∷ (codes "NEQ", Some (Compare Neq))
+    ∷ (codes "GTH", Some (Compare Gth)) ∷ (codes "LTH", Some (Compare Lth))
     ∷ (codes "JMP", Some (Jump Jmp)) ∷ (codes "JCN", Some (Jump Jcn)) ∷ (codes "JSR", Some (Jump Jsr)) ∷ (codes "STH", Some Sth)
     ∷ (codes "LDZ", Some (Load Ldz)) ∷ (codes "STZ", Some (Store Stz)) ∷ (codes "LDR", Some (Load Ldr)) ∷ (codes "STR", Some (Store Str))
     ∷ (codes "LDA", Some (Load Lda)) ∷ (codes "STA", Some (Store Sta)) ∷ (codes "DEI", Some Dei) ∷ (codes "DEO", Some Deo)
-    ∷ (codes "ADD", Some (Arithmetic Add)) ∷ (codes "SUB", Some (Arithmetic Sub)) ∷ (codes "MUL", Some (Arithmetic Mul)) ∷ (codes "DIV", Some (Arithmetic Div))
-    ∷ (codes "AND", Some (Arithmetic And)) ∷ (codes "ORA", Some (Arithmetic Ora)) ∷ (codes "EOR", Some (Arithmetic Eor)) ∷ (codes "SFT", Some Sft) ∷ []
+    ∷ (codes "ADD", Some (Arithmetic Add)) ∷ (codes "SUB", Some (Arithmetic Sub))
+    ∷ (codes "MUL", Some (Arithmetic Mul)) ∷ (codes "DIV", Some (Arithmetic Div))
+    ∷ (codes "AND", Some (Arithmetic And)) ∷ (codes "ORA", Some (Arithmetic Ora))
+    ∷ (codes "EOR", Some (Arithmetic Eor)) ∷ (codes "SFT", Some Sft) ∷ []
 
 abbrev pub operations : List (Option Op)
 operations = map (λ row. row.1) operation_rows

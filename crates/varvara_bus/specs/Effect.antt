@@ -1,5 +1,6 @@
 -- What a write to a port does (Varvara device reference).
-use Rattle.std.specs.Prelude.{ℕ, ◌+◌, ◌*◌, ◌==◌, Bool, true, false, List, [], ◌∷◌, ◌++◌, map, Option, Some, None, if◌then◌else◌}
+use Rattle.std.specs.Prelude.{ℕ, ◌+◌, ◌*◌, ◌==◌, Bool, true, false, List, []}
+use Rattle.std.specs.Prelude.{◌∷◌, ◌++◌, map, Option, Some, None, if◌then◌else◌}
 use Rattle.uxn_io_traits.specs.Outside.{Change, ToOut, ToErr}
 use Rattle.uxn_opcodes.specs.declared.Core.{Core}
 use Rattle.system_port.specs.declared.expansions.BankRange.{BankRange}

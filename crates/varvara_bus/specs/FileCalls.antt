@@ -39,7 +39,8 @@ act_requested (requested.Write at length keep) = Write
 -- a device answered what an action does by the files of a state beneath a root, or it stopped
 abbrev pub Performed : FileAction → Option (List ℕ) → FileState → List ℕ → Option Nodes → Result ℕ FileStop
     → FileState → List ℕ → Type 0
-Performed action root device memory contents (Ok success) device_now memory_now = (part : Nodes) → (parent : Bool) → HasFiles contents root part parent
+Performed action root device memory contents (Ok success) device_now memory_now =
+    (part : Nodes) → (parent : Bool) → HasFiles contents root part parent
     → AnswersAction (file.act action root part parent device memory) (Ok success) device_now memory_now
 Performed action root device memory contents (Err stop) device_now memory_now = DeviceStopped action device memory contents stop device_now memory_now
 

@@ -1,5 +1,6 @@
 -- Laws of footprints: an action touches nothing but what its footprint says.
-use Rattle.std.specs.Prelude.{◌≡◌, ℕ, ◌==◌, ◌||◌, not, Bool, true, false, ◌+◌, ◌%◌, ◌≤◌, List, [], ◌∷◌, ◌++◌, map, length, Option, option_map, is_some, IsTrue, refl}
+use Rattle.std.specs.Prelude.{◌≡◌, ℕ, ◌==◌, ◌||◌, not, Bool, true, false, ◌+◌, ◌%◌, ◌≤◌, List, []}
+use Rattle.std.specs.Prelude.{◌∷◌, ◌++◌, map, length, Option, option_map, is_some, IsTrue, refl}
 use Rattle.std.proofs.Common.{sym, ◌∙◌, inl, inr, rules, true≢false, arith}
 use Rattle.std.proofs.lemmas.Bool.{cases_Bool, eqb-true, and_parts}
 use Rattle.std.specs.List.{list_all}
@@ -23,7 +24,8 @@ use Rattle.varvara_bus.specs.declared.ports.FileAct.TheVariants.{Stat, Delete, N
 use Rattle.varvara_bus.specs.History.{Store, stored, stored_after, stored_short}
 use Rattle.varvara_bus.specs.State.{DeviceState, storing}
 use Rattle.varvara_bus.specs.FileActs.{file_base, file_in, file_action, file_outcome, file_acted, length_in}
-use Rattle.varvara_bus.specs.Effect.{Effect, Footprint, footprint, memory_filled, range_meant, range_of, actions, action_in, action_of, act, effect, debug_bytes}
+use Rattle.varvara_bus.specs.Effect.{Effect, Footprint, footprint, memory_filled, range_meant, range_of}
+use Rattle.varvara_bus.specs.Effect.{actions, action_in, action_of, act, effect, debug_bytes}
 
 -- this holds of each change
 abbrev pub Each : {A : Type 0} → (A → Type 0) → List A → Type 0
@@ -94,7 +96,8 @@ none-within before after changes = record {
 }
 
 file-within : (number : FileNumber) (part : FileAct) (devices : DeviceState) (memory : List ℕ) → 65536 ≤ length memory
-    → ChangesWithin (range_of (memory_filled part (file_base number)) (stored devices.history) memory) memory (file_outcome number part devices memory).memory
+    → ChangesWithin (range_of (memory_filled part (file_base number)) (stored devices.history) memory) memory
+    (file_outcome number part devices memory).memory
 file-within number part devices memory size =
     let base = file_base number in
     let device = file_in number devices in
@@ -102,10 +105,14 @@ file-within number part devices memory size =
     let changes = acts-change (file_action part devices.history base) devices.root device memory seen size in
     by part changes
   where
-    by : (part : FileAct) → ChangesAt (places_touched (file_action part devices.history (file_base number))) memory (file_outcome number part devices memory).memory
-        → ChangesWithin (range_of (memory_filled part (file_base number)) (stored devices.history) memory) memory (file_outcome number part devices memory).memory
-    by Stat changes = meant-within (stored_short devices.history (file_base number + 0x04)) (length_in devices.history (file_base number)) memory _ changes
-    by Read changes = meant-within (stored_short devices.history (file_base number + 0x0c)) (length_in devices.history (file_base number)) memory _ changes
+    by : (part : FileAct) → ChangesAt (places_touched (file_action part devices.history (file_base number))) memory
+        (file_outcome number part devices memory).memory
+        → ChangesWithin (range_of (memory_filled part (file_base number)) (stored devices.history) memory) memory
+        (file_outcome number part devices memory).memory
+    by Stat changes = meant-within (stored_short devices.history (file_base number + 0x04))
+        (length_in devices.history (file_base number)) memory _ changes
+    by Read changes = meant-within (stored_short devices.history (file_base number + 0x0c))
+        (length_in devices.history (file_base number)) memory _ changes
     by Name changes = none-within memory _ changes
     by Delete changes = none-within memory _ changes
     by Write changes = none-within memory _ changes

@@ -100,7 +100,8 @@ changes-then devices core first after port byte goes_on in_order =
 pub same-itself : {T O E : Type 0} (of_tree : trees.Ghosts T) (bus : Bus T O E) → SameBus of_tree bus bus
 same-itself of_tree bus = search (rules, refuses-nothing)
 
-pub same-again : {T O E : Type 0} (of_tree : trees.Ghosts T) (a b c : Bus T O E) → SameBus of_tree a b → SameBus of_tree b c → SameBus of_tree a c
+pub same-again : {T O E : Type 0} (of_tree : trees.Ghosts T) (a b c : Bus T O E)
+    → SameBus of_tree a b → SameBus of_tree b c → SameBus of_tree a c
 same-again of_tree a b c p q = record {
   borrowed = record {
     devices = q.borrowed.devices ∙ p.borrowed.devices;
@@ -140,7 +141,8 @@ module _ {T O E : Type 0} (meaning : BusModel T O E) where
       → StopsShort meaning before now stop (first ++ more)
   stops-first before now stop first more short = record {
     cut = cut-first (outside_on meaning before).world (outside_on meaning now).world first more short.cut;
-    not_guaranteed = not-guaranteed-first (result_blame {T = Unit {0}} (Err stop)) (outside_on meaning before).guaranteed (meaning.tree.state before.tree.now).contents
+    not_guaranteed = not-guaranteed-first (result_blame {T = Unit {0}} (Err stop)) (outside_on meaning before).guaranteed
+        (meaning.tree.state before.tree.now).contents
         first more short.not_guaranteed;
   }
 
@@ -148,7 +150,8 @@ module _ {T O E : Type 0} (meaning : BusModel T O E) where
       → StopsShort meaning middle now stop more → StopsShort meaning before now stop (first ++ more)
   stops-later before middle now stop first more p short = record {
     cut = cut-later (outside_on meaning before).world (outside_on meaning middle).world (outside_on meaning now).world first more p.world short.cut;
-    not_guaranteed = not-guaranteed-later (result_blame {T = Unit {0}} (Err stop)) (outside_on meaning before).guaranteed (outside_on meaning middle).guaranteed
+    not_guaranteed = not-guaranteed-later (result_blame {T = Unit {0}} (Err stop)) (outside_on meaning before).guaranteed
+        (outside_on meaning middle).guaranteed
         (meaning.tree.state before.tree.now).contents first more p.remains (rw (contents-now before middle first p) at short.not_guaranteed);
   }
 
@@ -165,7 +168,8 @@ module _ {T O E : Type 0} (meaning : BusModel T O E) where
   comes-to false before now state come files = record { devices = come.0; files = rw come.1 (files refl) }
 
   -- so a write has its effect, from each state that the bus represented
-  pub wrote-effect : (before now : Bus T O E) (core core_new : Core) (port byte : ℕ) → HasActed meaning ((port, byte) ∷ []) before core (action_of port) byte now core_new
+  pub wrote-effect : (before now : Bus T O E) (core core_new : Core) (port byte : ℕ)
+      → HasActed meaning ((port, byte) ∷ []) before core (action_of port) byte now core_new
       → (state : DeviceState) → BusRepresents (contents_on meaning.tree) before state
       → HasEffect meaning before now core_new (effect state core port byte)
   unfolding effect

@@ -20,7 +20,8 @@ writes_at core = if opcode_at core == 0 then [] else writes_in (begun core).acce
 -- what holds of some changes and the writes to come, and goes on to hold as each of them is done, holds of an instruction
 module _ (R : List Change → List (ℕ × ℕ) → Type 0) (Q : DeviceState → Type 0)
     (next : (devices : DeviceState) (core : Core) (port byte : ℕ) (changes : List Change) (writes : List (ℕ × ℕ)) → Q devices
-    → R changes ((port, byte) ∷ writes) → R (changes ++ (effect devices core port byte).changes) writes × Q (effect devices core port byte).devices) where
+    → R changes ((port, byte) ∷ writes) → R (changes ++ (effect devices core port byte).changes) writes
+    × Q (effect devices core port byte).devices) where
   written-holds : (writes : List (ℕ × ℕ)) (machine : Machine Devised) → Q machine.ports.devices → R machine.ports.changes writes
       → R (written_by varvara writes machine).ports.changes [] × Q (written_by varvara writes machine).ports.devices
   written-holds [] machine q r = (r, q)

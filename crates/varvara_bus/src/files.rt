@@ -88,8 +88,8 @@ fn perform_on<T: Tree>(
     number: FileNumber,
     request: Request,
 ) -> Result<u16, FileStop>
-    ensures tree { TreeEnded (changes_by (action_requested request) (T.state tree.old).contents (file_held number devices.old) memory.old) (has_failed result)
-        (T.state tree.old) (T.state tree.new) }
+    ensures tree { TreeEnded (changes_by (action_requested request) (T.state tree.old).contents (file_held number devices.old) memory.old)
+        (has_failed result) (T.state tree.old) (T.state tree.new) }
     ensures acted { Performed (action_requested request) devices.old.root (file_held number devices.old) memory.old (T.state tree.old).contents result
         (file_held number devices.new) memory.new }
     ensures stands { (state : DeviceState) → DevicesRepresent devices.old state

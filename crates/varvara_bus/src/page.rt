@@ -122,7 +122,8 @@ pub(crate) fn stored_short(devices: &Devices, port: u8) -> u16
 /// Stores a short in a port and the next one, its high byte first.
 pub(crate) fn store_short(devices: &mut Devices, port: u8, value: u16)
     requires { port < 255 }
-    ensures stands { (state : DeviceState) → DevicesRepresent devices.old state → DevicesRepresent devices.new (storing (short_stores port value) state) }
+    ensures stands { (state : DeviceState) → DevicesRepresent devices.old state
+        → DevicesRepresent devices.new (storing (short_stores port value) state) }
     ensures frames { devices.new.time.frames ≡ devices.old.time.frames }
     ensures clock { device_clock devices.new ≡ device_clock devices.old }
     ensures root { devices.new.root ≡ devices.old.root }

@@ -117,7 +117,8 @@ pub(crate) fn draw_pixel(devices: &mut Devices, control: u8)
 /// Draws tiles, and stores the next x, y and address.
 #[inline(never)]
 pub(crate) fn draw_sprite(devices: &mut Devices, memory: &Memory, control: u8)
-    ensures stands { (state : DeviceState) → DevicesRepresent devices.old state → DevicesRepresent devices.new (sprite_drawn control memory.now state) }
+    ensures stands { (state : DeviceState) → DevicesRepresent devices.old state
+        → DevicesRepresent devices.new (sprite_drawn control memory.now state) }
     ensures frames { devices.new.time.frames ≡ devices.old.time.frames }
     ensures clock { device_clock devices.new ≡ device_clock devices.old }
     ensures root { devices.new.root ≡ devices.old.root }
