@@ -1,5 +1,5 @@
 -- Where the tokens of a text begin of which each has one blank behind it, and that they are its words if none begins a comment.
-use Rattle.std.proofs.Common.{◌≡◌, ℕ, ◌+◌, ◌-◌, ◌≤◌, false, List, [], ◌∷◌, ◌++◌, length, map, refl, ap, sym, ◌∙◌, subst, None}
+use Rattle.std.proofs.Common.{◌≡◌, ℕ, ◌≤◌, false, List, [], ◌∷◌, ◌++◌, length, map, refl, None}
 use Rattle.std.specs.List.{AllByRecursion}
 use Rattle.std.proofs.lemmas.Bool.{le-ltb}
 use Rattle.std.proofs.lemmas.List.Sums.{fold_push}
@@ -37,8 +37,7 @@ module _ (source : List ℕ) where
       → comment_depth source (before ++ token ∷ []) ≡ 0
   unfolding comment_depth
   depth_stays before token none plain =
-      fold_push (λ (open_before : ℕ) (each_token : Word). depth_after open_before (word_text source each_token)) 0 before token
-      ∙ ap (λ (n : ℕ). depth_after n (word_text source token)) none ∙ rw plain refl
+      rw (fold_push (λ (depth : ℕ) (token : Word). depth_after depth (word_text source token)) 0 before token, none, plain) refl
 
   -- all tokens are words
   all_words : (tokens before : List Word) → comment_depth source before ≡ 0 → AllByRecursion (λ token. IsSpoken (word_text source token)) tokens
@@ -54,17 +53,16 @@ module _ (source : List ℕ) where
       → phase_fault (each (validated_token source) before tokens) ≡ None
   all_sound [] before none spoken = refl
   all_sound (token ∷ tokens) before none spoken =
-      let plain = spoken.0.no_comment in
-      let paren = spoken.0.no_paren in
       let short = le-ltb WORD_LIMIT (length (word_text source token)) spoken.0.short in
-      let rest = all_sound tokens (before ++ token ∷ []) (depth_stays before token none plain) spoken.1 in
-      rw (none, plain, paren, short) rest
+      let rest = all_sound tokens (before ++ token ∷ []) (depth_stays before token none spoken.0.no_comment) spoken.1 in
+      rw (none, spoken.0.no_comment, spoken.0.no_paren, short) rest
 
 all_mapped : {X Y : Type 0} (P : Y → Type 0) (f : X → Y) (xs : List X) → AllByRecursion P (map f xs) → AllByRecursion (λ x. P (f x)) xs
 all_mapped P f [] all = tt
 all_mapped P f (x ∷ xs) all = (all.0, all_mapped P f xs all.1)
 
-all_texts : (chunks : List Chunk) → AllByRecursion (λ (c : Chunk). IsSpoken c.text) chunks → AllByRecursion IsSpoken (map (λ (c : Chunk). c.text) chunks)
+all_texts : (chunks : List Chunk) → AllByRecursion (λ (c : Chunk). IsSpoken c.text) chunks
+    → AllByRecursion IsSpoken (map (λ (c : Chunk). c.text) chunks)
 all_texts [] all = tt
 all_texts (chunk ∷ chunks) all = (all.0, all_texts chunks all.1)
 
@@ -72,7 +70,7 @@ spoken_tokens : (chunks : List Chunk) → AreChunks chunks → AllByRecursion (�
     → AllByRecursion (λ token. IsSpoken (word_text (text_of_chunks chunks) token)) (tokens_of (text_of_chunks chunks))
 spoken_tokens chunks are spoken =
     all_mapped IsSpoken (word_text (text_of_chunks chunks)) (tokens_of (text_of_chunks chunks))
-    (subst (λ (texts : List (List ℕ)). AllByRecursion IsSpoken texts) (sym (texts_of_tokens chunks are)) (all_texts chunks spoken))
+    (rw (texts_of_tokens chunks are) (all_texts chunks spoken))
 
 -- the words of chunks are their tokens
 pub words_are_tokens : (chunks : List Chunk) → AreChunks chunks → AllByRecursion (λ (c : Chunk). IsSpoken c.text) chunks
@@ -85,5 +83,5 @@ pub chunks_faultless : (chunks : List Chunk) → AreChunks chunks → AllByRecur
     → length (text_of_chunks chunks) ≤ TEXT_LIMIT → word_fault (text_of_chunks chunks) ≡ None
 unfolding word_fault comment_depth
 chunks_faultless chunks are spoken short =
-    let low = le-ltb TEXT_LIMIT (length (text_of_chunks chunks)) short in
-    rw low (all_sound (text_of_chunks chunks) (tokens_of (text_of_chunks chunks)) [] refl (spoken_tokens chunks are spoken))
+    rw (le-ltb TEXT_LIMIT (length (text_of_chunks chunks)) short)
+    (all_sound (text_of_chunks chunks) (tokens_of (text_of_chunks chunks)) [] refl (spoken_tokens chunks are spoken))

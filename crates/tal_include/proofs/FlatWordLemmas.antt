@@ -1,9 +1,13 @@
 -- A walk splices words one behind the other, and they are the words of the flat text.
-use Rattle.std.proofs.Common.{◌≡◌, ℕ, zero, suc, ◌+◌, ◌≤◌, Bool, true, false, List, [], ◌∷◌, ◌++◌, length, map, refl, ap, sym, ◌∙◌, subst, arith, append_assoc, append-nil, length-append, Option, Some, None, Result, Ok, Err, IsSome, IfOk, zero-add}
-use Rattle.std.specs.Prelude.{if◌then◌else◌, ◌&&◌, ◌||◌, ◌==◌, nat_lt}
+use Rattle.std.proofs.Common.{◌≡◌, ℕ, zero, suc, ◌+◌, ◌≤◌, Bool, true, false, List, [], ◌∷◌, ◌++◌, length, map, refl, ap, sym, ◌∙◌, subst, arith}
+use Rattle.std.proofs.Common.{append_assoc, append-nil, length-append, Option, Some, None, Result, Ok, Err, IsSome, IfOk, inl, inr}
+use Rattle.std.specs.Prelude.{◌==◌}
 use Rattle.std.specs.List.{list_any, AllByRecursion}
 use Rattle.std.specs.Option.{option_map}
+use Rattle.std.proofs.lemmas.Bool.{cases_Bool, eq-eqb}
+use Rattle.std.proofs.lemmas.Bool.Decides.{nat_tests}
 use Rattle.std.proofs.lemmas.List.{map-append}
+use Rattle.tal_words.proofs.BlankFree.{all_joined}
 use Rattle.uxn_inquiry.specs.Along.{Always}
 use Rattle.uxn_inquiry.specs.Inquiry.{Answer, and_then}
 use Rattle.uxn_inquiry.specs.InquiryLaws.{always-mapped, always-said, always-through}
@@ -16,10 +20,9 @@ use Rattle.tal_words.specs.Source.{word_text}
 use Rattle.tal_words.proofs.PlainTokens.{text_of_chunks, AreChunks}
 use Rattle.tal_include.specs.declared.faults.Origin.{Origin}
 use Rattle.tal_include.specs.declared.faults.IncludeFault.{IncludeFault}
-use Rattle.tal_include.specs.declared.faults.IncludeKind.TheVariants.{LongFlat}
 use Rattle.tal_include.specs.declared.spliced.Place.{Place}
 use Rattle.tal_include.specs.Flat.{Flat, empty_flat, flat_with_word, flat_with_path, place_in_list, origin_at, origin_of}
-use Rattle.tal_include.specs.Includes.{is_include, included_path, path_or_kind, bytes_or_kind, include_fault_at}
+use Rattle.tal_include.specs.Includes.{is_include, included_path, path_or_kind, bytes_or_kind}
 use Rattle.tal_include.specs.Splice.{Walk, found_at, words_by, is_long_with, at_plain_word, at_include, at_word, through_words, through_file}
 use Rattle.tal_include.specs.Splice.{has_includes, splice_inquiry, walk}
 use Rattle.tal_include.specs.FlatWords.{HasItsWords}
@@ -39,47 +42,31 @@ pub record IsFlat (has : Bool) (flat : Flat) : Type 0 where
   pub includes : flat.includes ≡ has
   pub short : has ≡ true → length flat.text ≤ TEXT_LIMIT
 
-text_more : (texts : List (List ℕ)) (text : List ℕ) → text_of_chunks (lines_of (texts ++ text ∷ [])) ≡ text_of_chunks (lines_of texts) ++ text ++ 10 ∷ []
+text_more : (texts : List (List ℕ)) (text : List ℕ)
+    → text_of_chunks (lines_of (texts ++ text ∷ [])) ≡ text_of_chunks (lines_of texts) ++ text ++ 10 ∷ []
 text_more [] text = append-nil (text ++ 10 ∷ [])
-text_more (first ∷ texts) text =
-    ap (λ (t : List ℕ). (first ++ 10 ∷ []) ++ t) (text_more texts text)
-    ∙ sym (append_assoc (first ++ 10 ∷ []) (text_of_chunks (lines_of texts) ++ text) (10 ∷ []))
-    ∙ ap (λ (t : List ℕ). t ++ 10 ∷ []) (sym (append_assoc (first ++ 10 ∷ []) (text_of_chunks (lines_of texts)) text))
+text_more (first ∷ texts) text = rw (text_more texts text) (simp append_assoc)
 
 starts_more : (texts : List (List ℕ)) (text : List ℕ) (from at : ℕ) → at ≡ from + length (text_of_chunks (lines_of texts))
     → starts from (lines_of (texts ++ text ∷ [])) ≡ starts from (lines_of texts) ++ at ∷ []
-starts_more [] text from at is = let same : from ≡ at = omega (arith, is) in ap (λ (n : ℕ). n ∷ []) same
+starts_more [] text from at is = (let same : from ≡ at = omega (arith, is) in rw same refl)
 starts_more (first ∷ texts) text from at is =
     let size = length-append (first ++ 10 ∷ []) (text_of_chunks (lines_of texts)) in
-    let line = length-append first (10 ∷ []) in
-    let later : at ≡ from + length first + 1 + length (text_of_chunks (lines_of texts)) = omega (arith, is, size, line) in
-    ap (λ (ns : List ℕ). from ∷ ns) (starts_more texts text (from + length first + 1) at later)
-
-all_more : (texts : List (List ℕ)) (text : List ℕ) → AllByRecursion IsSound texts → IsSound text → AllByRecursion IsSound (texts ++ text ∷ [])
-all_more [] text all one = (one, tt)
-all_more (first ∷ texts) text all one = (all.0, all_more texts text all.1 one)
+    rw (starts_more texts text (from + length first + 1) at (omega (arith, is, size, length-append first (10 ∷ [])))) refl
 
 module _ (includes : Bool) where
   flat_more : (flat : Flat) (file : ℕ) (word : Word) (text : List ℕ) → IsSound text → is_long_with flat text ≡ false → IsFlat includes flat
       → IsFlat includes (flat_with_word file word text flat)
   flat_more flat file word text sound short is = record {
     texts = is.texts ++ text ∷ [];
-    sound = all_more is.texts text is.sound sound;
-    text = ap (λ (t : List ℕ). t ++ text ++ 10 ∷ []) is.text ∙ sym (text_more is.texts text);
+    sound = all_joined IsSound is.texts (text ∷ []) is.sound (sound, tt);
+    text = rw (is.text, text_more) refl;
     places =
-        map-append (λ (p : Place). p.at) flat.places (record { at = length flat.text; file = file; line = word.line; column = word.column } ∷ [])
-        ∙ ap (λ (ns : List ℕ). ns ++ length flat.text ∷ []) is.places
-        ∙ sym (starts_more is.texts text 0 (length flat.text) (ap length is.text ∙ sym (zero-add (length (text_of_chunks (lines_of is.texts))))));
+        let at : length flat.text ≡ 0 + length (text_of_chunks (lines_of is.texts)) = omega (arith, ap length is.text) in
+        rw (map-append, is.places, starts_more is.texts text 0 (length flat.text) at) refl;
     includes = is.includes;
-    short = λ has.
-        let one = length-append flat.text text in
-        let both = length-append (flat.text ++ text) (10 ∷ []) in
-        let fits = within flat.includes (length flat.text + length text + 1) (is.includes ∙ has) short in
-        omega (arith, one, both, fits);
+    short = λ has. grind (arith, nat_tests, is.includes, has, length-append flat.text text, length-append (flat.text ++ text) (10 ∷ []));
   }
-    where
-      within : (b : Bool) (n : ℕ) → b ≡ true → (b && nat_lt TEXT_LIMIT n) ≡ false → n ≤ TEXT_LIMIT
-      within b n is none = grind (arith, is, none)
 
   with_file : (flat : Flat) (path : List ℕ) → IsFlat includes flat → IsFlat includes (flat_with_path path flat)
   with_file flat path is =
@@ -91,12 +78,10 @@ module _ (includes : Bool) where
 
   plain_flat : (file : ℕ) (origin : Origin) (word : Word) (text : List ℕ) (flat : Flat) → IsSound text → IsFlat includes flat
       → IfOk (at_plain_word file origin word text flat) (IsFlat includes)
-  plain_flat file origin word text flat sound is = by (is_long_with flat text) refl
-    where
-      by : (b : Bool) → is_long_with flat text ≡ b
-          → IfOk {E = IncludeFault} (if b then Err (include_fault_at origin LongFlat text) else Ok (flat_with_word file word text flat)) (IsFlat includes)
-      by true e = tt
-      by false e = flat_more flat file word text sound e is
+  plain_flat file origin word text flat sound is = elim (cases_Bool (is_long_with flat text)) [
+    | inl long ↦ rw long tt
+    | inr short ↦ rw short (flat_more flat file word text sound short is)
+  ]
 
   module _ (deeper : ℕ) (inner : List ℕ → List ℕ → Flat → Walk)
       (inner_flat : (path source : List ℕ) (flat : Flat) → IsFlat includes flat → IsFlatWalk (inner path source flat)) where
@@ -108,12 +93,12 @@ module _ (includes : Bool) where
 
     word_flat : (path source : List ℕ) (file : ℕ) (word : Word) (flat : Flat) → IsSoundWord source word → IsFlat includes flat
         → IsFlatWalk (at_word deeper inner path source file word flat)
-    word_flat path source file word flat sound is = by (is_include (word_text source word))
-      where
-        by : (b : Bool) → IsFlatWalk (if b then at_include deeper inner (record { path = path; line = word.line; column = word.column }) (word_text source word) flat
-            else Answer (at_plain_word file (record { path = path; line = word.line; column = word.column }) word (word_text source word) flat))
-        by true = include_flat (record { path = path; line = word.line; column = word.column }) (word_text source word) flat is
-        by false = plain_flat file (record { path = path; line = word.line; column = word.column }) word (word_text source word) flat sound is
+    word_flat path source file word flat sound is =
+        let origin : Origin = record { path = path; line = word.line; column = word.column } in
+        elim (cases_Bool (is_include (word_text source word))) [
+          | inl include ↦ rw include (include_flat origin (word_text source word) flat is)
+          | inr plain ↦ rw plain (plain_flat file origin word (word_text source word) flat sound is)
+        ]
 
     file_flat : (path source : List ℕ) (flat : Flat) → IsFlat includes flat → IsFlatWalk (through_file deeper inner path source flat)
     file_flat path source flat is =
@@ -123,7 +108,8 @@ module _ (includes : Bool) where
             → IsFlatWalk (and_then (Answer (words_by path source fault)) (through_words deeper inner path source flat))
         by None none =
             always-through (IsFlat includes) (IsSoundWord source) (at_word deeper inner path source (length flat.paths))
-            (λ word now sound holds. word_flat path source (length flat.paths) word now sound holds) (words_of source) flat (words_sound source none) is
+            (λ word now sound holds. word_flat path source (length flat.paths) word now sound holds) (words_of source) flat (words_sound source none)
+            is
         by (Some fault) none = tt
 
   walk_flat : (deeper : ℕ) (path source : List ℕ) (flat : Flat) → IsFlat includes flat → IsFlatWalk (walk deeper path source flat)
@@ -131,7 +117,8 @@ module _ (includes : Bool) where
   walk_flat zero path source flat is = is
   walk_flat (suc deeper) path source flat is = file_flat deeper (walk deeper) (walk_flat deeper) path source flat is
 
-all_lines : (texts : List (List ℕ)) → AllByRecursion IsSound texts → AreChunks (lines_of texts) × AllByRecursion (λ (c : Chunk). IsSpoken c.text) (lines_of texts)
+all_lines : (texts : List (List ℕ)) → AllByRecursion IsSound texts
+    → AreChunks (lines_of texts) × AllByRecursion (λ (c : Chunk). IsSpoken c.text) (lines_of texts)
 all_lines [] all = (tt, tt)
 all_lines (text ∷ texts) all = let rest = all_lines texts all.1 in ((all.0.chunk, rest.0), (all.0.spoken, rest.1))
 
@@ -141,27 +128,14 @@ IsIn n ms = list_any (λ m. m == n) ms ≡ true
 
 place_there : (places : List Place) (at : ℕ) → IsIn at (map (λ (p : Place). p.at) places) → IsSome (place_in_list at places)
 place_there [] at is = is
-place_there (place ∷ places) at is = by (place.at == at) is (λ h. place_there places at h)
-  where
-    by : (b : Bool) → (b || list_any (λ m. m == at) (map (λ (p : Place). p.at) places)) ≡ true
-        → (IsIn at (map (λ (p : Place). p.at) places) → IsSome (place_in_list at places)) → IsSome (if b then Some place else place_in_list at places)
-    by true e h = refl
-    by false e h = h e
-
-same_number : (n : ℕ) → (n == n) ≡ true
-same_number n = grind arith
+place_there (place ∷ places) at is = grind (arith, place_there places at)
 
 is_in : (n : ℕ) (prefix back : List ℕ) → IsIn n (prefix ++ n ∷ back)
-is_in n [] back = ap (λ (b : Bool). b || list_any (λ m. m == n) back) (same_number n)
-is_in n (m ∷ prefix) back = by (m == n) (is_in n prefix back)
-  where
-    by : (b : Bool) → IsIn n (prefix ++ n ∷ back) → (b || list_any (λ k. k == n) (prefix ++ n ∷ back)) ≡ true
-    by true h = refl
-    by false h = h
+is_in n [] back = rw (eq-eqb n n refl) refl
+is_in n (m ∷ prefix) back = grind (arith, is_in n prefix back)
 
 some_mapped : {X Y : Type 0} (f : X → Y) (o : Option X) → IsSome o → IsSome (option_map f o)
-some_mapped f None is = is
-some_mapped f (Some x) is = refl
+some_mapped f o is = grind arith
 
 all_placed : (flat : Flat) (prefix words : List Word) → map (λ (w : Word). w.span.start) (prefix ++ words) ≡ map (λ (p : Place). p.at) flat.places
     → AllByRecursion (λ word. IsSome (origin_at flat word.span.start)) words
@@ -179,16 +153,11 @@ has_its_words : (source : List ℕ) (flat : Flat) → IsFlat (has_includes sourc
 has_its_words source flat is =
     let are = all_lines is.texts is.sound in
     let begin : map (λ (w : Word). w.span.start) (words_of flat.text) ≡ map (λ (p : Place). p.at) flat.places =
-    ap (λ (t : List ℕ). map (λ (w : Word). w.span.start) (words_of t)) is.text
-    ∙ ap (map (λ (w : Word). w.span.start)) (words_are_tokens (lines_of is.texts) are.0 are.1)
-    ∙ starts_of_tokens (lines_of is.texts) are.0 ∙ sym is.places
-    in
+    rw (is.text, words_are_tokens (lines_of is.texts) are.0 are.1, is.places) (starts_of_tokens (lines_of is.texts) are.0) in
     record {
       begins = begin;
       origins = all_placed flat [] (words_of flat.text) begin;
-      faultless = λ short.
-          ap word_fault is.text
-          ∙ chunks_faultless (lines_of is.texts) are.0 are.1 (subst (λ (t : List ℕ). length t ≤ TEXT_LIMIT) is.text short);
+      faultless = λ short. rw is.text (chunks_faultless (lines_of is.texts) are.0 are.1 (rw is.text at short));
       short = is.short;
     }
 

@@ -1,7 +1,9 @@
 -- What the words of a source without a fault of words are.
-use Rattle.std.proofs.Common.{◌≡◌, ℕ, suc, ◌+◌, ◌-◌, ◌<◌, Bool, true, false, not, List, [], ◌∷◌, ◌++◌, length, get_or, take, drop, refl, sym, arith, Option, Some, None}
-use Rattle.std.specs.Prelude.{if◌then◌else◌, ◌&&◌, nat_lt}
+use Rattle.std.proofs.Common.{◌≡◌, ℕ, ◌+◌, ◌-◌, ◌<◌, Bool, true, false, not, List, [], ◌∷◌, ◌++◌, length, get_or, take, drop, refl, arith}
+use Rattle.std.proofs.Common.{Option, None}
+use Rattle.std.specs.Prelude.{if◌then◌else◌}
 use Rattle.std.specs.List.{prefix_len, AllByRecursion}
+use Rattle.std.proofs.lemmas.Grind.{common_steps}
 use Rattle.std.proofs.lemmas.List.{drop_more}
 use Rattle.tal_words.specs.declared.span.Word.{Word}
 use Rattle.tal_words.specs.declared.fault.Fault.{Fault}
@@ -9,10 +11,9 @@ use Rattle.tal_words.specs.declared.fault.FaultKind.{FaultKind}
 use Rattle.tal_words.specs.declared.fault.FaultKind.TheVariants.{OpenComment, LongWord, StrayParen}
 use Rattle.tal_words.specs.Faults.{when, least, phase_fault, fault_or}
 use Rattle.tal_words.specs.Order.{each, collected}
-use Rattle.uxn_limits.specs.declared.limits.TheConstants.{TEXT_LIMIT}
 use Rattle.tal_words.specs.Comments.{is_word, validated_token, word_given, words_of, word_fault}
 use Rattle.tal_words.specs.PlainTexts.{Chunk}
-use Rattle.tal_words.specs.Source.{is_blank, word_text, run_length, is_after_blank, begins_token, token_at, tokens_of}
+use Rattle.tal_words.specs.Source.{is_blank, word_text, begins_token, token_at, tokens_of}
 use Rattle.tal_words.proofs.BlankFree.{all_joined, words_all, words_free}
 use Rattle.tal_words.proofs.PlainTokens.{IsChunk}
 use Rattle.tal_include.proofs.ChunkLemmas.{IsSpoken}
@@ -26,15 +27,13 @@ pub record IsSound (text : List ℕ) : Type 0 where
   pub chunk : IsChunk (line_of text)
   pub spoken : IsSpoken text
 
-pub no_kinds : (kinds : List FaultKind) (word : Word) (later : Option Fault) → fault_or word (least kinds) later ≡ None → (kinds ≡ []) × (later ≡ None)
+pub no_kinds : (kinds : List FaultKind) (word : Word) (later : Option Fault) → fault_or word (least kinds) later ≡ None
+    → (kinds ≡ []) × (later ≡ None)
 no_kinds [] word later is = (refl, is)
 no_kinds (kind ∷ kinds) word later is = cc is
 
 no_when : (a b c : Bool) → (when a OpenComment ++ when b LongWord ++ when c StrayParen) ≡ [] → (b ≡ false) × (c ≡ false)
-no_when true b c is = cc is
-no_when false true c is = cc is
-no_when false false true is = cc is
-no_when false false false is = (refl, refl)
+no_when a b c is = grind arith
 
 module _ (source : List ℕ) where
   abbrev pub IsSpokenWord : Word → Type 0
@@ -45,55 +44,33 @@ module _ (source : List ℕ) where
 
   given_spoken : (token : Word) (before after : List Word) (b : Bool) → is_word source before token ≡ b
       → (validated_token source before token after).kinds ≡ [] → AllByRecursion IsSpokenWord (if b then token ∷ [] else [])
-  given_spoken token before after false is kinds = tt
-  given_spoken token before after true is kinds =
-      let parts = no_when _ _ _ kinds in (
-        record {
-          no_comment = grind (arith, is);
-          no_paren = grind (arith, is, parts.1);
-          short = grind (arith, is, parts.0);
-        },
-        tt,
-      )
+  given_spoken token before after b is kinds = grind (arith, common_steps)
 
   given_all : (before tokens : List Word) → phase_fault (each (validated_token source) before tokens) ≡ None
       → AllByRecursion IsSpokenWord (collected (word_given source) before tokens)
   given_all before [] none = tt
   given_all before (token ∷ tokens) none =
-      let parts = no_kinds (validated_token source before token tokens).kinds token (phase_fault (each (validated_token source) (before ++ token ∷ []) tokens)) none in
+      let parts = no_kinds (validated_token source before token tokens).kinds token
+      (phase_fault (each (validated_token source) (before ++ token ∷ []) tokens)) none in
       all_joined IsSpokenWord (word_given source before token tokens) (collected (word_given source) (before ++ token ∷ []) tokens)
       (given_spoken token before tokens (is_word source before token) refl parts.0)
       (given_all (before ++ token ∷ []) tokens parts.1)
 
-  long_cons : (byte : ℕ) (bytes : List ℕ) → is_blank byte ≡ false → 0 < length (take (prefix_len (λ b. not (is_blank b)) (byte ∷ bytes)) (byte ∷ bytes))
-  long_cons byte bytes plain =
-      let one : 1 + prefix_len (λ b. not (is_blank b)) bytes ≡ suc (prefix_len (λ b. not (is_blank b)) bytes) = omega arith in
-      rw (plain, one) (omega arith)
+  long_cons : (byte : ℕ) (bytes : List ℕ) → is_blank byte ≡ false
+      → 0 < length (take (prefix_len (λ b. not (is_blank b)) (byte ∷ bytes)) (byte ∷ bytes))
+  long_cons byte bytes plain = grind (arith, common_steps, plain)
 
   token_long : (at : ℕ) → at < length source → begins_token source at ≡ true → IsLong (token_at source at)
   unfolding token_at
   token_long at within begins_here =
-      let plain : is_blank (get_or source at 0) ≡ false = both (is_after_blank source at) (is_blank (get_or source at 0)) begins_here in
-      let size : at + run_length source at - at ≡ run_length source at = omega arith in
-      let here = drop_more source at 0 within in
-      rw (size, here) (long_cons (get_or source at 0) (drop (at + 1) source) plain)
-    where
-      both : (a b : Bool) → (a && not b) ≡ true → b ≡ false
-      both a false is = refl
-      both true true is = sym is
-      both false true is = sym is
+      grind (arith, common_steps, drop_more source at 0 within, long_cons (get_or source at 0) (drop (at + 1) source))
 
   words_long : AllByRecursion IsLong (words_of source)
   words_long = words_all (λ text. 0 < length text) source token_long
 
   words_spoken : word_fault source ≡ None → AllByRecursion IsSpokenWord (words_of source)
   unfolding words_of word_fault
-  words_spoken none = by (nat_lt TEXT_LIMIT (length source)) none
-    where
-      by : (b : Bool) → (if b then Some Rattle.tal_words.specs.Comments.long_source else phase_fault (each (validated_token source) [] (tokens_of source))) ≡ None
-          → AllByRecursion IsSpokenWord (collected (word_given source) [] (tokens_of source))
-      by true is = cc is
-      by false is = given_all [] (tokens_of source) is
+  words_spoken none = given_all [] (tokens_of source) (grind arith)
 
   abbrev pub IsSoundWord : Word → Type 0
   IsSoundWord word = IsSound (word_text source word)

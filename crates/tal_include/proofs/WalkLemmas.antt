@@ -1,5 +1,6 @@
 -- How a walk goes on.
-use Rattle.std.proofs.Common.{◌≡◌, ℕ, zero, suc, ◌+◌, ◌-◌, ◌<◌, List, length, drop, get_or, Result, Ok, Err, None, ◌∙◌, true, false, refl, ap, sym, subst, arith}
+use Rattle.std.proofs.Common.{◌≡◌, ℕ, zero, suc, ◌+◌, ◌-◌, ◌<◌, List, length, drop, get_or, Result, Ok, Err, None, true, false, refl, ap, sym, subst}
+use Rattle.std.proofs.Common.{arith}
 use Rattle.std.specs.List.{list_any}
 use Rattle.uxn_io_traits.specs.State.{TreeState}
 use Rattle.uxn_io_traits.specs.declared.trees.FileBytes.{FileBytes}
@@ -8,7 +9,8 @@ use Rattle.uxn_inquiry.specs.declared.halt.Halt.TheVariants.{NoMemory}
 use Rattle.uxn_inquiry.specs.Inquiry.{Answer, and_then, through, file_of}
 use Rattle.uxn_inquiry.specs.Inquires.{Inquires, Says}
 use Rattle.uxn_inquiry.specs.Leads.{Leads, Here}
-use Rattle.uxn_inquiry.specs.Laws.{leads-more, leads-end, leads-stop, leads-step, leads-refused, leads-no-memory, inquires-said, through-more, through-stop}
+use Rattle.uxn_inquiry.specs.Laws.{leads-more, leads-end, leads-stop, leads-step, leads-refused, leads-no-memory, inquires-said, through-more}
+use Rattle.uxn_inquiry.specs.Laws.{through-stop}
 use Rattle.tal_words.specs.declared.span.Word.{Word}
 use Rattle.tal_words.specs.Source.{word_text}
 use Rattle.uxn_limits.specs.declared.limits.TheConstants.{TEXT_LIMIT, INCLUDE_DEPTH}
@@ -17,7 +19,7 @@ use Rattle.tal_include.specs.declared.faults.Origin.{Origin}
 use Rattle.tal_include.specs.declared.faults.IncludeFault.{IncludeFault}
 use Rattle.tal_include.specs.Flat.{Flat, empty_flat, flat_with_path}
 use Rattle.tal_include.specs.Includes.{is_include, included_path, path_or_kind, bytes_or_kind}
-use Rattle.tal_include.specs.Splice.{Walk, found_at, words_in, at_plain_word, at_include, at_word, through_words, through_file, walk, has_includes, splice_inquiry}
+use Rattle.tal_include.specs.Splice.{Walk, found_at, words_in, at_plain_word, at_include, at_word, through_words, through_file, walk, splice_inquiry}
 
 walk-is : (deeper : ℕ) (path source : List ℕ) (flat : Flat) → 0 < deeper
     → walk deeper path source flat ≡ through_file (deeper - 1) (walk (deeper - 1)) path source flat
@@ -71,7 +73,7 @@ module _ (deeper : ℕ) (origin : Origin) (text : List ℕ) (flat : Flat) (view 
 
         at-bytes : Leads whole (and_then (Answer (words_in path bytes)) with_words) a b
         at-bytes =
-            subst (λ (rest : Walk). Leads whole rest a b) (walk-is deeper path bytes (flat_with_path path flat) some)
+            rw (walk-is deeper path bytes (flat_with_path path flat) some) at
             (leads-step whole (found_at origin text (bytes_or_kind file)) (with_bytes path) a b bytes at-file found)
 
         pub no-words : {C : Type 0} (shown : C → List Word) (source : List ℕ) (halt : Halt IncludeFault) → source ≡ bytes
@@ -89,11 +91,7 @@ module _ (deeper : ℕ) (origin : Origin) (text : List ℕ) (flat : Flat) (view 
             → Inquires view (through_words (deeper - 1) (walk (deeper - 1)) path again now list) b c r → Inquires view whole a c r
         all-words source again words list now c r same are is_now is_again is_list p =
             leads-end view whole (with_words words) a b c r
-            (leads-step whole (words_in path bytes) with_words a b words at-bytes
-            (subst (λ (s : List ℕ). words_in path s ≡ Ok words) same are))
-            (subst (λ (f : Flat). Inquires view (through_words (deeper - 1) (walk (deeper - 1)) path bytes f words) b c r) is_now
-            (subst (λ (s : List ℕ). Inquires view (through_words (deeper - 1) (walk (deeper - 1)) path s now words) b c r) is_again
-            (subst (λ (ws : List Word). Inquires view (through_words (deeper - 1) (walk (deeper - 1)) path again now ws) b c r) is_list p)))
+            (leads-step whole (words_in path bytes) with_words a b words at-bytes (rw same at are)) (rw (is_now, is_again, is_list) at p)
 
 -- the words of a file, one after the other: the rest of them from a word on
 module _ (whole : Walk) (deeper : ℕ) (path source text : List ℕ) (words : List Word) (i number : ℕ) (here : Flat)
@@ -153,7 +151,4 @@ pub source-words : {D : Type 0} (view : D → Flat) (main source : List ℕ) (wo
     → Inquires view (splice_inquiry main source) a b r
 unfolding splice_inquiry
 source-words view main source words flat a b r none are is p =
-    let through : List Word → Flat → Walk = λ list now. through_words INCLUDE_DEPTH (walk INCLUDE_DEPTH) main source now list in
-    let start : Flat = empty_flat main (has_includes source) in
-    let same : flat ≡ start = is ∙ ap (λ list. empty_flat main (list_any (λ word. is_include (word_text source word)) list)) are in
-    rw none (subst (λ list. Inquires view (through list start) a b r) are (subst (λ now. Inquires view (through words now) a b r) same p))
+    rw none (rw (is, are) at p)

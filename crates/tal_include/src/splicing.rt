@@ -8,7 +8,8 @@ ghost use Rattle.tal_words.specs.declared.span.Word.{Word};
 ghost use Rattle.tal_words.specs.Source.{word_text};
 ghost use Rattle.tal_words.specs.Comments.{words_of, word_fault};
 ghost use Rattle.tal_include.specs.Includes.{is_include, included_path, path_or_kind, bytes_or_kind, include_fault_at};
-ghost use Rattle.tal_include.specs.Splice.{is_long_with, found_at, words_in, at_plain_word, at_include, through_words, walk, is_spliced, splice_inquiry};
+ghost use Rattle.tal_include.specs.Splice.{is_long_with, found_at, words_in, at_plain_word, at_include};
+ghost use Rattle.tal_include.specs.Splice.{through_words, walk, is_spliced, splice_inquiry};
 
 use crate::faults::{IncludeFault, IncludeKind, Origin, SpliceStop};
 use crate::spliced::Spliced;

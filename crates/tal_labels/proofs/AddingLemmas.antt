@@ -1,15 +1,15 @@
 -- Words that are added one by one: their faults, and what is kept of them.
-use Rattle.tal_labels.proofs.Common.{◌≡◌, ℕ, ◌+◌, ◌<◌, Bool, true, false, not, List, [], ◌∷◌, ◌++◌, length, take, drop, get_or, Option, Some, None, Ok}
-use Rattle.tal_labels.proofs.Common.{Result, cond, ◌&&◌, refl, sym, ◌∙◌, ap, arith, is_some, Expanded, Fault, FaultKind, Form, least, fault_or}
+use Rattle.tal_labels.proofs.Common.{◌≡◌, ℕ, ◌+◌, ◌<◌, Bool, true, false, not, List, [], ◌∷◌, ◌++◌, length, take, drop, get_or, Option, Some, None}
+use Rattle.tal_labels.proofs.Common.{Ok, Result, cond, ◌&&◌, refl, sym, ◌∙◌, ap, arith, is_some, Expanded, Fault, FaultKind, Form, least, fault_or}
 use Rattle.tal_labels.proofs.Common.{or_later, phase_fault, form, opens, each, collected, expanded_text, each-step, each-more, no_word, fault-later}
 use Rattle.tal_labels.proofs.Common.{fault-behind, fault-prefix, fault_or-none, shape_kinds, open_count, closing_distance, validated_shape}
-use Rattle.tal_labels.proofs.Common.{shape_fault, validated_place, placing_fault, place_fault, shape_added, adding_kinds, validated_added, added_fault}
-use Rattle.tal_labels.proofs.Common.{open_given, open_ones, next_fault}
+use Rattle.tal_labels.proofs.Common.{shape_fault, validated_place, placing_fault, place_fault, shape_added, adding_kinds, validated_added}
+use Rattle.tal_labels.proofs.Common.{added_fault, open_given, open_ones, next_fault}
 use Rattle.tal_labels.proofs.LayingLemmas.{each-none, has_form, least-none}
 use Rattle.tal_words.specs.declared.span.Word.{Word}
 use Rattle.tal_labels.proofs.CallerLemmas.{place_fault-none}
 
-append-none : (a b : List FaultKind) → least (a ++ b) ≡ None → (a ≡ []) × (b ≡ [])
+pub append-none : (a b : List FaultKind) → least (a ++ b) ≡ None → (a ≡ []) × (b ≡ [])
 append-none [] b e = (refl, least-none b e)
 append-none (kind ∷ a) b e = cc
 

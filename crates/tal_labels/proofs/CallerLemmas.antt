@@ -1,11 +1,15 @@
 -- What a caller of `place` cites: each word of a layout without a fault.
 use Rattle.tal_labels.proofs.Common.{◌≡◌, ℕ, zero, suc, ◌+◌, ◌<◌, ◌≤◌, inl, inr, true, false, List, [], ◌∷◌, ◌++◌, length, take, drop, get_or, None}
-use Rattle.tal_labels.proofs.Common.{Ok, refl, arith, append_assoc, append-nil, is_some, ◌||◌, list_any, ltb, ltb-false, lt-ltb, cases_lt, take_more}
-use Rattle.tal_labels.proofs.Common.{Expanded, Form, form, size, PlacedWord, collected, expanded_text, address_after, defined_name, scope_after}
-use Rattle.tal_labels.proofs.Common.{labels_of, open_count, closing_distance, validated_shape, shape_fault, is_mark_form, is_defined, ends_above}
-use Rattle.tal_labels.proofs.Common.{validated_place, placing_fault, place_fault, lambda_address, placed_given, placed_of, ends_given, ends_of}
-use Rattle.tal_labels.proofs.Common.{LieApart, open_word, no_word}
+use Rattle.tal_labels.proofs.Common.{map, length-map, ap, Ok, refl, arith, append_assoc, append-nil, is_some, ◌||◌, list_any, ltb, ltb-false, lt-ltb}
+use Rattle.tal_labels.proofs.Common.{cases_lt, take_more, Expanded, Form, form, size, PlacedWord, collected, expanded_text, address_after}
+use Rattle.tal_labels.proofs.Common.{defined_name, scope_after, labels_of, open_count, closing_distance, validated_shape, shape_fault, is_mark_form}
+use Rattle.tal_labels.proofs.Common.{is_defined, ends_above, validated_place, placing_fault, place_fault, lambda_address, placed_given, placed_of}
+use Rattle.tal_labels.proofs.Common.{ends_given, ends_of, LieApart, open_word, no_word}
 use Rattle.tal_labels.proofs.LayingLemmas.{IsWellPlaced, well_placed, ends_of-append, or_false, each-none, has_form, least-none}
+
+-- each of the words has a form
+abbrev pub HaveForms : List ℕ → List Expanded → Type 0
+HaveForms source words = (k : ℕ) → k < length words → (shape : Form) × (form (expanded_text source (get_or words k no_word)) ≡ Ok shape)
 
 -- where no word has a fault, none has one of its shape or of its place
 pub place_fault-none : (source : List ℕ) (words : List Expanded) → place_fault source words ≡ None → (shape_fault source words ≡ None) × (placing_fault source words ≡ None)
@@ -29,7 +33,7 @@ placed_well source words sound k within shape e = well_placed _ _ _ _ _ (rw e at
 abbrev pub placed_word : List ℕ → List Expanded → Expanded → List Expanded → Form → PlacedWord
 placed_word source before word after shape = record (open_word source before word shape) { lambda = lambda_address source before word after }
 
-collected_at : (source : List ℕ) (before words : List Expanded) → ((k : ℕ) → k < length words → (shape : Form) × (form (expanded_text source (get_or words k no_word)) ≡ Ok shape))
+collected_at : (source : List ℕ) (before words : List Expanded) → HaveForms source words
     → (k : ℕ) (shape : Form) (d : PlacedWord) → k < length words → form (expanded_text source (get_or words k no_word)) ≡ Ok shape
     → get_or (collected (placed_given source) before words) k d ≡ placed_word source (before ++ take k words) (get_or words k no_word) (drop (k + 1) words) shape
 collected_at source before [] all k shape d within e = absurd (omega arith)
@@ -38,16 +42,17 @@ collected_at source before (word ∷ words) all (suc k) shape d within e =
     let next : suc k + 1 ≡ suc (k + 1) = omega arith in
     rw ((all 0 (omega arith)).1, collected_at source (before ++ word ∷ []) words (λ j below. all (suc j) (omega arith)) k shape d (omega arith) e, append_assoc before (word ∷ []) (take k words), next) refl
 
-pub length-collected : (source : List ℕ) (before words : List Expanded) → ((k : ℕ) → k < length words → (shape : Form) × (form (expanded_text source (get_or words k no_word)) ≡ Ok shape)) → length (collected (placed_given source) before words) ≡ length words
-length-collected source before [] all = refl
-length-collected source before (word ∷ words) all =
-    rw ((all 0 (omega arith)).1, length-collected source (before ++ word ∷ []) words (λ j below. all (suc j) (omega arith))) refl
+-- the words that have places are all words
+pub placed_words : (source : List ℕ) (before words : List Expanded) → HaveForms source words
+    → map (λ placed. placed.word) (collected (placed_given source) before words) ≡ words
+placed_words source before [] all = refl
+placed_words source before (word ∷ words) all =
+    rw ((all 0 (omega arith)).1, placed_words source (before ++ word ∷ []) words (λ j below. all (suc j) (omega arith))) refl
 
--- there are as many placed words as words
-pub length-placed_of : (source : List ℕ) (words : List Expanded) → ((k : ℕ) → k < length words → (shape : Form) × (form (expanded_text source (get_or words k no_word)) ≡ Ok shape))
+pub length-placed_of : (source : List ℕ) (words : List Expanded) → HaveForms source words
     → length (placed_of source words) ≡ length words
 unfolding placed_of
-length-placed_of source words all = length-collected source [] words all
+length-placed_of source words all = omega (arith, ap length (placed_words source [] words all), length-map (placed_of source words) (λ (p : PlacedWord). p.word))
 
 -- a place that no end of some words lies above lies at or above the end of each of them that has bytes
 ends_below : (source : List ℕ) (words : List Expanded) (place k : ℕ) → k ≤ length words → list_any (λ end. ltb place end) (ends_of source (take k words)) ≡ false
@@ -71,7 +76,7 @@ ends_below source words place (suc k) inside none i below shape e some =
 -- the words of a layout without a fault lie in memory, each above the ends of those before it
 pub lie_apart : (source : List ℕ) (words : List Expanded) → shape_fault source words ≡ None → placing_fault source words ≡ None → LieApart source (placed_of source words)
 unfolding placed_of
-lie_apart source words shaped sound = let all = formed_at source words shaped in let count = length-collected source [] words all in record {
+lie_apart source words shaped sound = let all = formed_at source words shaped in let count = length-placed_of source words all in record {
   each = λ k d within.
       let inside : k < length words = omega (arith, count) in
       let formed = all k inside in

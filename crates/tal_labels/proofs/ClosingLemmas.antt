@@ -1,22 +1,13 @@
-use Rattle.tal_labels.proofs.Common.{◌≡◌, ℕ, zero, suc, ◌+◌, ◌<◌, Bool, true, false, List, [], ◌∷◌, length, take, drop, get_or, map, slice_get, Option}
-use Rattle.tal_labels.proofs.Common.{Some, None, cond, inl, inr, ◌&&◌, refl, ◌∙◌, arith, add-one, ◌==◌, option_map, drop_more, eqb-true, ne_eqb}
-use Rattle.tal_labels.proofs.Common.{eq-eqb, and_parts, or_cases, Expanded, opens, closes, matching_after, one_if, each, expanded_text, closer_of}
-use Rattle.tal_labels.proofs.Common.{waiting_step, each-step}
+use Rattle.tal_labels.proofs.Common.{◌≡◌, ℕ, zero, suc, ◌+◌, ◌<◌, Bool, true, false, List, [], ◌∷◌, length, take, drop, get_or, map, slice_get}
+use Rattle.tal_labels.proofs.Common.{Option, Some, None, cond, ◌&&◌, refl, ◌∙◌, arith, add-one, ◌==◌, option_map, drop_more, ne_eqb, eq-eqb, Expanded}
+use Rattle.tal_labels.proofs.Common.{opens, closes, matching_after, one_if, each, expanded_text, closer_of, waiting_step, each-step}
 use Rattle.std.proofs.Common.{length-take}
+use Rattle.tal_words.proofs.BraceLemmas.{opens-closes}
 
 -- what waits from a word on, where the first word has this index
 abbrev pub waiting_from : List ℕ → ℕ → List Expanded → List ℕ
 waiting_from source at [] = []
 waiting_from source at (word ∷ words) = waiting_step at (opens (expanded_text source word)) (closes (expanded_text source word)) (waiting_from source (at + 1) words)
-
--- no word opens and closes
-pub opens-closes : (text : List ℕ) → opens text ≡ true → closes text ≡ false
-opens-closes [] e = cc
-opens-closes (first ∷ []) e = elim (or_cases _ _ e) [
-  | inl brace ↦ (let same : first ≡ 123 = eqb-true first 123 brace in ne_eqb first 125 (λ other. omega arith))
-  | inr never ↦ (let none : false ≡ true = (and_parts _ _ never).1 in cc)
-]
-opens-closes (first ∷ second ∷ rest) e = refl
 
 shift : (at : ℕ) (o : Option ℕ) → option_map (λ n. at + n) (option_map suc o) ≡ option_map (λ n. at + 1 + n) o
 shift at o = grind arith
@@ -31,22 +22,10 @@ step : (at d c : ℕ) (opening closing : Bool) (rest : List ℕ) (o : ℕ → �
     → ((d c : ℕ) → option_map (λ n. at + 1 + n) (o (c + d) c) ≡ slice_get rest d)
     → option_map (λ n. at + n) (cond (closing && ((c + d) == c)) (Some 0) (option_map suc (o (c + d + one_if opening) (c + one_if closing)))) ≡ slice_get (waiting_step at opening closing rest) d
 step at d c true true rest o apart h = (let never : true ≡ false = apart refl in cc)
-step at d c true false rest o apart h =
-    let more : c + d + 1 ≡ c + (d + 1) = omega arith in
-    let still : c + 0 ≡ c = omega arith in
-    shift at (o (c + d + 1) (c + 0)) ∙ rw (more, still) (h (d + 1) c) ∙ get-drop rest d
-step at zero c false true rest o apart h =
-    let still : c + 0 ≡ c = omega arith in
-    let here : at + 0 ≡ at = omega arith in
-    rw (still, eq-eqb c c refl, here) refl
-step at (suc d) c false true rest o apart h =
-    let other : ((c + suc d) == c) ≡ false = ne_eqb (c + suc d) c (λ same. omega arith) in
-    let fewer : c + suc d + 0 ≡ c + 1 + d = omega arith in
-    rw (other, fewer) (shift at (o (c + 1 + d) (c + 1)) ∙ h d (c + 1))
-step at d c false false rest o apart h =
-    let still : c + d + 0 ≡ c + d = omega arith in
-    let same : c + 0 ≡ c = omega arith in
-    rw (still, same) (shift at (o (c + d) c) ∙ h d c)
+step at d c true false rest o apart h = grind (arith, shift at (o (c + d + 1) (c + 0)), h (d + 1) c, get-drop rest d)
+step at zero c false true rest o apart h = grind (arith, eq-eqb c c refl)
+step at (suc d) c false true rest o apart h = grind (arith, ne_eqb (c + suc d) c (λ same. omega arith), shift at (o (c + 1 + d) (c + 1)), h d (c + 1))
+step at d c false false rest o apart h = grind (arith, shift at (o (c + d) c), h d c)
 
 -- the matching `}` of an opener with d more open is what waits at d
 pub matching-waiting : (source : List ℕ) (at : ℕ) (words : List Expanded) (d c : ℕ) → option_map (λ n. at + n) (matching_after (c + d) c (map (expanded_text source) words)) ≡ slice_get (waiting_from source at words) d

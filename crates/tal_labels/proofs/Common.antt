@@ -1,7 +1,7 @@
 -- The names that most proofs of this crate cite, passed on from one place. Declares nothing.
-pub use Rattle.std.proofs.Common.{◌≡◌, ℕ, ◌+◌, ◌-◌, ◌≤◌, not, List, length, take, drop, refl, ◌∙◌, ap, arith, reverse, ◌^◌, ◌<◌, Bool, true, false, []}
-pub use Rattle.std.proofs.Common.{◌∷◌, ◌++◌, Option, Some, None, Ok, cond, sym, length-append, append-nil, inl, inr, zero, suc, get_or, append_assoc}
-pub use Rattle.std.proofs.Common.{◌||◌, map, slice_get, ◌&&◌, ◌⊎◌, length-drop, Err, Result, add-one}
+pub use Rattle.std.proofs.Common.{◌≡◌, ℕ, ◌+◌, ◌-◌, ◌≤◌, not, List, length, take, drop, refl, ◌∙◌, ap, arith, reverse, ◌^◌, ◌<◌, Bool, true, false}
+pub use Rattle.std.proofs.Common.{[], ◌∷◌, ◌++◌, Option, Some, None, Ok, cond, sym, length-append, append-nil, inl, inr, zero, suc, get_or}
+pub use Rattle.std.proofs.Common.{append_assoc, ◌||◌, map, slice_get, ◌&&◌, ◌⊎◌, length-drop, Err, Result, add-one}
 pub use Rattle.std.specs.Prelude.{◌==◌, MatchOption, is_some, fold, slice_set, unwrap_or, if◌then◌else◌, nat_lt}
 pub use Rattle.std.proofs.Math.Dec.{ltb}
 pub use Rattle.std.proofs.Math.Seq.{take-append_seam}

@@ -6,7 +6,7 @@ use Rattle.tal_labels.proofs.Common.{next_scope, label_of, address_after, define
 use Rattle.tal_labels.proofs.Common.{validated_place, placed_of, shape_added, added_fault, open_word, open_ones, PlacerModel, PlacerIsMaintained}
 use Rattle.tal_labels.proofs.Common.{next_fault, closed_labels, closed_opener, openers_step}
 use Rattle.tal_labels.specs.Scopes.{scope_text}
-use Rattle.tal_labels.proofs.ClosingLemmas.{opens-closes}
+use Rattle.tal_words.proofs.BraceLemmas.{opens-closes}
 use Rattle.tal_labels.proofs.CallerLemmas.{length-placed_of}
 use Rattle.tal_labels.proofs.LayingLemmas.{address_after-more, scope_after-append, labels_of-append, top-append}
 use Rattle.tal_labels.proofs.OpenLemmas.{opened, still-more, ClosesLast, closes_last, length-open_ones}
@@ -24,9 +24,7 @@ module _ (source : List ℕ) (words : List Expanded) (word : Expanded) (kept : P
 
   place_read : (shape : Form) (text : List ℕ) → IsNext source word shape text
       → place_kinds (is_defined kept.labels (defined_name (Ok shape) (scope_text source kept.scope) text)) kept.address (size shape text) (is_mark_form shape) (ltb kept.address kept.top) ≡ (validated_place source words word []).kinds
-  place_read shape text next =
-      let shaped = rw next.read at next.formed in
-      rw (← so.top kept.address, so.labels, so.scope, so.address, next.read, shaped) refl
+  place_read shape text next = grind (arith, so.top kept.address, so.labels, so.scope, so.address, next.read, next.formed)
 
   pub refused_shape : (text : List ℕ) (depth : ℕ) (kind : FaultKind) → depth ≡ length kept.openers → text ≡ expanded_text source word
       → least (shape_kinds (form text) text depth true) ≡ Some kind → next_fault source words word ≡ Some (fault_at word.origin kind)
@@ -50,7 +48,7 @@ closes_by address at old new before after (inr some) =
 
 -- the places and the open lambdas with one word more
 module _ (source : List ℕ) (words : List Expanded) (word : Expanded) (shape : Form) (shaped : form (expanded_text source word) ≡ Ok shape) (formed : added_fault source words ≡ None) where
-  next_ones : (opening closing : Bool) → opens (expanded_text source word) ≡ opening → closes (expanded_text source word) ≡ closing
+  pub next_ones : (opening closing : Bool) → opens (expanded_text source word) ≡ opening → closes (expanded_text source word) ≡ closing
       → (closed_labels (closed_opener opening closing (open_ones source words)) (address_after source words) (placed_of source words ++ open_word source words word shape ∷ []) ≡ placed_of source (words ++ word ∷ []))
       × (openers_step opening closing (length words) (open_ones source words) ≡ open_ones source (words ++ word ∷ []))
   unfolding placed_of open_ones

@@ -1,9 +1,9 @@
 -- The names of labels are not empty and have no blank in them, where no word has one.
 use Rattle.tal_labels.proofs.Common.{◌≡◌, ℕ, zero, suc, ◌<◌, true, not, List, [], ◌∷◌, ◌++◌, length, take, drop, Option, Some, None, Result, Ok, refl}
-use Rattle.tal_labels.proofs.Common.{arith, length-append, ◌==◌, option_map_or, prefix_len, AllByRecursion, list_any-append, Expanded, FaultKind, Form}
-use Rattle.tal_labels.proofs.Common.{LabelDef, SubDef, expanded_text, first_scope, scope_of, full_name, slash, rune_of, name_fault, form, rune_or_bare}
-use Rattle.tal_labels.proofs.Common.{collected, or_earlier, label_name, defined_name, last_label, scope_after, label_at, labels_given, labels_of}
-use Rattle.tal_labels.proofs.Common.{HasNoBlank, IsNamed, is_mark_form}
+use Rattle.tal_labels.proofs.Common.{arith, length-append, ◌==◌, option_map_or, prefix_len, AllByRecursion, list_any-append, Expanded, FaultKind}
+use Rattle.tal_labels.proofs.Common.{Form, LabelDef, SubDef, expanded_text, first_scope, scope_of, full_name, slash, rune_of, name_fault, form}
+use Rattle.tal_labels.proofs.Common.{rune_or_bare, collected, or_earlier, label_name, defined_name, last_label, scope_after, label_at, labels_given}
+use Rattle.tal_labels.proofs.Common.{labels_of, HasNoBlank, IsNamed, is_mark_form}
 use Rattle.tal_words.specs.declared.form.Rune.{Rune}
 use Rattle.tal_words.specs.PlainTexts.{IsBlankFree}
 use Rattle.tal_words.proofs.BlankFree.{all_joined}

@@ -1,9 +1,9 @@
-use Rattle.tal_labels.proofs.Common.{◌≡◌, ℕ, ◌+◌, ◌<◌, ◌≤◌, Bool, true, false, List, [], ◌∷◌, ◌++◌, length, None, Ok, cond, ◌||◌, refl, ◌∙◌, ap, arith}
-use Rattle.tal_labels.proofs.Common.{take, drop, get_or, Err, Result, FaultKind, shape_kinds, none-at, nat_tests, list_any, is_some, unwrap_or, ltb}
-use Rattle.tal_labels.proofs.Common.{list_any-append, Expanded, Form, LabelDef, Pad, least, Validated, phase_fault, form, size, each, expanded_text}
-use Rattle.tal_labels.proofs.Common.{pad_value, moves, moved_since_pad, address_after, defined_name, scope_after, labels_given, labels_of, place_kinds}
-use Rattle.tal_labels.proofs.Common.{ends_given, ends_of, next_address, next_scope, label_of, collected-more, last_of-more, no_word, get_or-each}
-use Rattle.tal_labels.proofs.Common.{length-each}
+use Rattle.tal_labels.proofs.Common.{◌≡◌, ℕ, ◌+◌, ◌<◌, ◌≤◌, Bool, true, false, List, [], ◌∷◌, ◌++◌, length, None, Ok, cond, ◌||◌, refl, ◌∙◌, ap}
+use Rattle.tal_labels.proofs.Common.{arith, take, drop, get_or, Err, Result, FaultKind, shape_kinds, none-at, nat_tests, list_any, is_some, unwrap_or}
+use Rattle.tal_labels.proofs.Common.{ltb, list_any-append, Expanded, Form, LabelDef, Pad, least, Validated, phase_fault, form, size, each}
+use Rattle.tal_labels.proofs.Common.{expanded_text, pad_value, moves, moved_since_pad, address_after, defined_name, scope_after, labels_given}
+use Rattle.tal_labels.proofs.Common.{labels_of, place_kinds, ends_given, ends_of, next_address, next_scope, label_of, collected-more, last_of-more}
+use Rattle.tal_labels.proofs.Common.{no_word, get_or-each, length-each}
 
 -- where no word has a fault of a phase, a word has none
 pub each-none : (validate : List Expanded → Expanded → List Expanded → Validated) (words : List Expanded) → phase_fault (each validate [] words) ≡ None → (k : ℕ) → k < length words

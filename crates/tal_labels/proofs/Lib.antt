@@ -3,7 +3,7 @@ pub mod ClosingLemmas
 pub mod ShapeLemmas
 pub mod IndexLemmas
 pub mod LayingLemmas
-pub mod PlacedLemmas
+pub mod NextWord
 pub mod CallerLemmas
 pub mod OpenLemmas
 pub mod AddingLemmas

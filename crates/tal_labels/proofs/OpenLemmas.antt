@@ -6,7 +6,8 @@ use Rattle.tal_labels.proofs.Common.{take-append-le, take-append_seam, Expanded,
 use Rattle.tal_labels.proofs.Common.{each, expanded_text, PlacedWord, address_after, closing_distance, open_after, open_count, is_at, closes_one_of}
 use Rattle.tal_labels.proofs.Common.{waiting_step, lambda_address, placed_given, open_word, open_given, open_ones, closed_at, no_word}
 use Rattle.tal_labels.proofs.IndexLemmas.{none_since}
-use Rattle.tal_labels.proofs.ClosingLemmas.{waiting_from, opens-closes, matching-waiting}
+use Rattle.tal_labels.proofs.ClosingLemmas.{waiting_from, matching-waiting}
+use Rattle.tal_words.proofs.BraceLemmas.{opens-closes}
 
 -- how many of some texts open a brace, and how many close one
 abbrev pub openings : List (List ℕ) → ℕ
@@ -159,10 +160,9 @@ module _ (source : List ℕ) where
       still-more still before [] = (rw (append-nil before, last-placed before) refl, rw (append-nil before) (grind arith))
       still-more still before (word ∷ words) =
           let rest = still-more still (before ++ word ∷ []) words in
-          let same : closing_distance source (words ++ last ∷ []) ≡ closing_distance source words = distance-more words last ∙ rw still (grind arith) in (
-            rw (placed-kept before word words (λ _. same), rest.0, append_assoc before (word ∷ []) words, append_assoc) refl,
-            rw (open-kept before word words (λ _. same), rest.1, append_assoc before (word ∷ []) words, append_assoc) refl,
-          )
+          let same : closing_distance source (words ++ last ∷ []) ≡ closing_distance source words =
+          distance-more words last ∙ rw still (grind arith) in
+          grind (arith, placed-kept before word words (λ _. same), open-kept before word words (λ _. same), rest, append_assoc)
 
       -- one word more that closes the last opener that is open
       module _ (closing : closes (expanded_text source last) ≡ true) where

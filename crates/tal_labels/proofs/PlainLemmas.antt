@@ -4,6 +4,7 @@ use Rattle.tal_labels.proofs.Common.{length-append, nat_tests, if◌then◌else�
 use Rattle.tal_labels.proofs.Common.{phase_fault, form, size, encoded, opens, closes, each, pad_value, form_moves, moves, address_after, addresses_of}
 use Rattle.tal_labels.proofs.Common.{defined_name, scope_after, validated_shape, shape_fault, is_mark_form, formed_size, place_kinds, ends_of}
 use Rattle.tal_labels.proofs.Common.{ends_above, validated_place, placing_fault, place_fault}
+use Rattle.std.proofs.lemmas.Grind.{common_steps}
 use Rattle.tal_labels.proofs.LayingLemmas.{address-more, address_after-more, ends_of-append}
 use Rattle.uxn_limits.specs.declared.limits.TheConstants.{BANK_ROM_LIMIT}
 use Rattle.tal_labels.specs.PlainWords.{Coded, texts_of_coded, bytes_of_coded, pad_text, is_bare_form, RepresentsWord, addresses_from}
@@ -23,30 +24,9 @@ pub record IsCoded (word : Coded) : Type 0 where
   pub unopened : opens word.text ≡ false
   pub unclosed : closes word.text ≡ false
 
-bare_form : (shape : Form) (text : List ℕ) → is_bare_form shape ≡ true → (pad_value (Ok shape) ≡ None) × ((place target : ℕ) → encoded shape text place target ≡ encoded shape text 0 0)
-    × (size shape text ≡ length (encoded shape text 0 0)) × (form_moves shape text ≡ length (encoded shape text 0 0)) × (is_mark_form shape ≡ false)
-    × ((scope : List ℕ) → defined_name (Ok shape) scope text ≡ None) × (0 < length (encoded shape text 0 0))
-bare_form shape text bare = grind arith
-
 -- what is known of a word that represents bytes, by its form
 coded_is : (word : Coded) → RepresentsWord word → IsCoded word
-coded_is word is =
-    let known = bare_form is.shape word.text is.bare in
-    let count = ap length is.encodes in
-    record {
-      shape = is.shape;
-      formed = is.formed;
-      unpadded = known.0;
-      encodes = λ place target. known.1 place target ∙ is.encodes;
-      sized = known.2 ∙ count;
-      moved = known.3 ∙ count;
-      unmarked = known.4;
-      nameless = known.5;
-      bare = is.bare;
-      some = omega (arith, known.6, count);
-      unopened = is.plain.unopened;
-      unclosed = is.plain.unclosed;
-    }
+coded_is word is = grind (arith, common_steps)
 
 pub all_coded : (words : List Coded) → AllByRecursion RepresentsWord words → AllByRecursion IsCoded words
 all_coded [] all = tt

@@ -1,7 +1,7 @@
 use Rattle.tal_labels.proofs.Common.{◌≡◌, ℕ, ◌+◌, ◌<◌, ◌≤◌, Bool, List, [], length, take, drop, get_or, Option, Some, None, refl, sym, ◌∙◌, ap, arith}
 use Rattle.tal_labels.proofs.Common.{is_some, take_more, Expanded, FaultKind, least, fault_at, phase_fault, form, each, expanded_text, shape_kinds}
-use Rattle.tal_labels.proofs.Common.{open_after, open_count, closer_of, closers_of, validated_shape, shape_fault, fold-append, fault-here, fault-later}
-use Rattle.tal_labels.proofs.Common.{each-end, get_or-each, length-each, no_word}
+use Rattle.tal_labels.proofs.Common.{open_after, open_count, closer_of, closers_of, validated_shape, shape_fault, fold-append, fault-here}
+use Rattle.tal_labels.proofs.Common.{fault-later, each-end, get_or-each, length-each, no_word}
 
 open_count-more : (source : List ℕ) (words : List Expanded) (k : ℕ) (d : Expanded) → k < length words → open_count source (take (k + 1) words) ≡ open_after (open_count source (take k words)) (expanded_text source (get_or words k d))
 unfolding open_count

@@ -8,6 +8,9 @@ use Rattle.tal_words.specs.declared.fault.Fault.{Fault}
 use Rattle.tal_words.specs.declared.fault.AsmStop.{AsmStop}
 use Rattle.tal_words.specs.declared.fault.AsmStop.TheVariants.{Refused, NoMemory}
 use Rattle.tal_words.specs.Faults.{least, fault_or, or_later}
+use Rattle.tal_words.specs.declared.form.Form.TheVariants.{Refer}
+use Rattle.tal_words.specs.declared.form.Rune.{Rune}
+use Rattle.tal_words.specs.Braces.{opens}
 use Rattle.tal_words.specs.Forms.{form}
 use Rattle.tal_words.specs.Order.{last_of}
 use Rattle.tal_words.specs.Source.{expanded_text}
@@ -92,3 +95,17 @@ abbrev pub openers_step : Bool → Bool → ℕ → List ℕ → List ℕ
 openers_step true closing at openers = openers ++ at ∷ []
 openers_step false true at openers = take (length openers - 1) openers
 openers_step false false at openers = openers
+
+module _ (source : List ℕ) where
+  -- a reference opens a lambda whose end is not known
+  pub record IsOpen (placed : PlacedWord) : Type 0 where
+    pub rune : Rune
+    pub shape : placed.form ≡ Refer rune
+    pub opening : opens (expanded_text source placed.word) ≡ true
+    pub unended : placed.lambda ≡ None
+
+  -- the word at an index is such a reference
+  abbrev pub IsOpenAt : List PlacedWord → ℕ → Type 0
+  IsOpenAt [] at = ⊥
+  IsOpenAt (placed ∷ words) zero = IsOpen placed
+  IsOpenAt (placed ∷ words) (suc at) = IsOpenAt words at

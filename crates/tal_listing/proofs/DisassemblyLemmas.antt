@@ -1,8 +1,10 @@
 -- That a disassembly assembles to its ROM.
-use Rattle.std.proofs.Common.{◌≡◌, ℕ, zero, suc, ◌+◌, ◌-◌, ◌/◌, ◌%◌, ◌<◌, ◌≤◌, inl, inr, true, false, List, [], ◌∷◌, ◌++◌, length, take, drop, get_or, map, refl, ap, sym, ◌∙◌, arith, append_assoc, append-nil, length-take, length-drop, ◌*◌, None, Ok}
+use Rattle.std.proofs.Common.{◌≡◌, ℕ, zero, suc, ◌+◌, ◌-◌, ◌/◌, ◌%◌, ◌<◌, ◌≤◌, inl, inr, true, false, List, [], ◌∷◌, ◌++◌, length, take, drop, get_or}
+use Rattle.std.proofs.Common.{map, refl, ap, sym, ◌∙◌, arith, append_assoc, append-nil, length-take, length-drop, ◌*◌, Ok}
 use Rattle.std.proofs.Math.Seq.{drop-append_seam}
 use Rattle.std.specs.Prelude.{◌==◌, slice_index}
 use Rattle.std.specs.List.{flat_map, list_any, AllByRecursion}
+use Rattle.std.proofs.lemmas.Grind.{common_steps}
 use Rattle.std.proofs.lemmas.Bool.{cases_Bool, agree_below_at, eqb-true}
 use Rattle.std.proofs.lemmas.List.{drop_all, take-append-drop, map-append, get_or-take, get_or-drop, drop_more, drop-drop}
 use Rattle.std.proofs.lemmas.List.Concat.{flat_map-append}
@@ -11,7 +13,8 @@ use Rattle.tal_words.specs.declared.name.Label.{Label}
 use Rattle.tal_words.specs.Source.{is_blank, is_only}
 use Rattle.uxn_limits.specs.declared.limits.TheConstants.{TEXT_LIMIT}
 use Rattle.tal_words.specs.Opcodes.{name_of_op}
-use Rattle.tal_words.specs.PlainTexts.{Item, Comment, PlainWord, chunk_text, chunks_of_item, words_of_item, words_of_items, text_of_items, IsItem, IsComment, AreItems, IsPlainWord}
+use Rattle.tal_words.specs.PlainTexts.{Item, Comment, PlainWord, words_of_item, words_of_items, text_of_items, IsItem, IsComment, AreItems}
+use Rattle.tal_words.specs.PlainTexts.{IsPlainWord}
 use Rattle.tal_words.proofs.BlankFree.{all_joined}
 use Rattle.tal_words.proofs.PlainNames.{name_plain, form-name}
 use Rattle.tal_labels.specs.PlainWords.{Coded, texts_of_coded, bytes_of_coded, pad_text, RepresentsWord}
@@ -22,11 +25,11 @@ use Rattle.uxn_io_traits.specs.NumberText.{hex_of_short, hex_digit, hex_of_byte}
 use Rattle.tal_listing.specs.Texts.{hex_of_bytes, behind_name}
 use Rattle.tal_listing.specs.LabelChains.{labels_of_address}
 use Rattle.uxn_limits.specs.declared.addresses.TheConstants.{FIRST_ADDRESS}
-use Rattle.tal_listing.specs.Disassembly.{ListedInstruction, immediate_length, instructions_from, immediate_items, instruction_items, label_item, label_items, items_of_instruction, disassembly_items, disassembly}
+use Rattle.tal_listing.specs.Disassembly.{ListedInstruction, immediate_length, instructions_from, immediate_items, instruction_items, label_item}
+use Rattle.tal_listing.specs.Disassembly.{label_items, items_of_instruction, disassembly_items, disassembly}
 use Rattle.std.proofs.lemmas.Bool.Decides.{nat_tests}
 use Rattle.tal_words.specs.Forms.{form, bare, short_bytes}
 use Rattle.tal_words.specs.Digits.{is_digit, digit_value, number_of_digits}
-use Rattle.tal_words.specs.Names.{rune_of}
 use Rattle.tal_rom.specs.Rom.{rom_limit}
 
 -- what the texts of digits are as words
@@ -36,37 +39,18 @@ digit_known n below = (
   eqb-true (digit_value (hex_digit n)) n (agree_below_at (λ k. digit_value (hex_digit k) == k) (λ _. true) 16 n refl below),
 )
 
--- a digit is no other character
-other : (digit byte : ℕ) → is_digit digit ≡ true → is_digit byte ≡ false → (digit == byte) ≡ false
-other digit byte is not_digit = grind (arith, nat_tests)
-
 digit_plain : (digit : ℕ) → is_digit digit ≡ true → is_blank digit ≡ false
 digit_plain digit is = grind (arith, nat_tests)
-
-digit_no_rune : (digit : ℕ) → is_digit digit ≡ true → rune_of digit ≡ None
-digit_no_rune digit is =
-    rw (other digit 44 is refl, other digit 95 is refl, other digit 46 is refl, other digit 45 is refl, other digit 59 is refl, other digit 61 is refl, other digit 33 is refl, other digit 63 is refl) refl
 
 -- a word that begins with a digit is a number, an opcode or a name
 form-digit : (digit : ℕ) (rest : List ℕ) → is_digit digit ≡ true → form (digit ∷ rest) ≡ Ok (bare (digit ∷ rest))
 unfolding form
-form-digit digit rest is =
-    rw (other digit 124 is refl, other digit 36 is refl, other digit 35 is refl, other digit 34 is refl, other digit 64 is refl, other digit 38 is refl)
-    (rw (other digit 126 is refl, other digit 47 is refl, other digit 123 is refl, other digit 125 is refl, other digit 91 is refl, other digit 93 is refl, digit_no_rune digit is) refl)
+form-digit digit rest is = grind (arith, common_steps)
 
 -- two digits or more, as a word
 digits_plain : (first second : ℕ) (rest : List ℕ) → is_digit first ≡ true → is_digit second ≡ true → list_any is_blank rest ≡ false → length rest ≤ 2
     → IsPlainWord (first ∷ second ∷ rest)
-digits_plain first second rest is_first is_second plain short = record {
-  some = omega arith;
-  short = omega arith;
-  blank_free = rw (digit_plain first is_first, digit_plain second is_second, plain) refl;
-  no_comment = other first 40 is_first refl;
-  no_paren = other first 41 is_first refl;
-  no_head = other first 37 is_first refl;
-  unopened = rw (digit_no_rune first is_first) refl;
-  unclosed = refl;
-}
+digits_plain first second rest is_first is_second plain short = grind (arith, common_steps)
 
 -- a byte as two digits
 byte_digits : (byte : ℕ) → byte < 256
@@ -210,10 +194,6 @@ disassembly_assembles rom labels small room readable short =
     let words : words_of_items (disassembly_items rom labels) ≡ pad_text ∷ texts_of_coded coded = ap (λ (texts : List (List ℕ)). pad_text ∷ texts) known.words in
     rw known.bytes at (plain_assembles (disassembly_items rom labels) coded sound words known.stand short (omega (arith, ap length known.bytes)))
 
--- the text of items behind others
-pub text-append : (xs ys : List Item) → text_of_items (xs ++ ys) ≡ text_of_items xs ++ text_of_items ys
-text-append xs ys = ap (flat_map chunk_text) (flat_map-append chunks_of_item xs ys) ∙ flat_map-append chunk_text (flat_map chunks_of_item xs) (flat_map chunks_of_item ys)
-
 long_text : (before name digits address : List ℕ) → ((((before ++ name) ++ 32 ∷ digits) ++ 32 ∷ 40 ∷ 32 ∷ []) ++ address) ++ 32 ∷ 41 ∷ 10 ∷ []
     ≡ before ++ text_of_items (PlainWord name 32 ∷ PlainWord digits 32 ∷ Comment address 10 ∷ [])
 long_text before name digits address = simp (append_assoc, append-nil) refl
@@ -228,9 +208,7 @@ line_text before name (byte ∷ bytes) address = long_text before name (hex_of_b
 -- the text of the items of an instruction, and of those behind them
 text_more : (text labelled more : List ℕ) (labels line rest : List Item) (whole : List ℕ) → labelled ≡ text ++ text_of_items labels → more ≡ labelled ++ text_of_items line
     → text ++ text_of_items ((labels ++ line) ++ rest) ≡ whole → more ++ text_of_items rest ≡ whole
-text_more text labelled more labels line rest whole is_labelled is_more so =
-    let parts = rw (text-append (labels ++ line) rest, text-append labels line) at so in
-    rw (is_more, is_labelled) (simp append_assoc (simp append_assoc at parts))
+text_more text labelled more labels line rest whole is_labelled is_more so = grind (arith, common_steps)
 
 -- the text so far, and the instructions from an offset on, of which there are at most so many
 pub record DisassembledTo (rom : List ℕ) (labels : List Label) (text : List ℕ) (offset : ℕ) : Type 0 where
@@ -258,8 +236,7 @@ module _ (rom : List ℕ) (labels : List Label) (text : List ℕ) (offset : ℕ)
       → instructions_from most (FIRST_ADDRESS + offset) (drop offset rom) ≡ instruction_at ∷ instructions_from less (FIRST_ADDRESS + next) (drop next rom)
   unfolding instructions_from
   instructions_more most less next is_most is_next =
-      let place : FIRST_ADDRESS + offset + 1 + length instruction_at.immediate ≡ FIRST_ADDRESS + (offset + 1 + length instruction_at.immediate) = omega arith in
-      rw (is_most, is_next, drop_more rom offset 0 within, place, drop-drop (length instruction_at.immediate) (offset + 1) rom) refl
+      grind (arith, drop_more rom offset 0 within, drop-drop (length instruction_at.immediate) (offset + 1) rom)
 
   pub disassembled_more : (labelled more : List ℕ) (next : ℕ) → labelled ≡ text ++ text_of_items (label_items labels (FIRST_ADDRESS + offset))
       → more ≡ labelled ++ text_of_items (instruction_items instruction_at) → next ≡ offset + 1 + length instruction_at.immediate → DisassembledTo rom labels more next

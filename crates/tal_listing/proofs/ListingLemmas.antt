@@ -1,5 +1,6 @@
 -- The listing, one word at a time, and the bytes that it shows beside a word.
 use Rattle.std.proofs.Common.{◌≡◌, ℕ, ◌+◌, ◌-◌, ◌<◌, ◌≤◌, List, [], ◌∷◌, ◌++◌, length, get_or, None, Ok, refl, ap, ◌∙◌, arith, append_assoc, append-nil, zero, suc, true, false, map, find, Some}
+use Rattle.std.proofs.lemmas.Grind.{common_steps}
 use Rattle.std.proofs.lemmas.List.FromFn.{map-range_with_len_more, get_or-map-range_with_len, length-map-range_with_len}
 use Rattle.std.proofs.lemmas.List.Concat.{flat_map-append}
 use Rattle.tal_macros.specs.Expansion.{expanded_of}
@@ -41,10 +42,7 @@ line_fits source program words are assembled k d within some =
 
 -- a list reads the same without the zeros at its end
 get_or-before : (x : ℕ) (t xs : List ℕ) (i : ℕ) → ((j : ℕ) → get_or t j 0 ≡ get_or xs j 0) → get_or (before_trimmed x t) i 0 ≡ get_or (x ∷ xs) i 0
-get_or-before x [] xs zero same = grind (arith, nat_tests)
-get_or-before x [] xs (suc j) same = (let none = same j in grind (arith, none))
-get_or-before x (y ∷ ys) xs zero same = refl
-get_or-before x (y ∷ ys) xs (suc j) same = same j
+get_or-before x t xs i same = grind (arith, common_steps)
 
 get_or-trimmed : (xs : List ℕ) (i : ℕ) → get_or (trimmed xs) i 0 ≡ get_or xs i 0
 unfolding trimmed

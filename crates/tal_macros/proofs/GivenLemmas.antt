@@ -41,6 +41,14 @@ pub given-whole : (progress : Progress) → next_word (words_left progress) ≡ 
 unfolding expanded_of
 given-whole progress none faultless = given-all progress none ∙ ap without_uses (visits_before_fault-all progress.source faultless)
 
+-- the words given so far are a prefix of the expanded list
+pub given-prefix : (progress : Progress) → expansion_fault progress.source ≡ None
+    → expanded_of progress.source ≡ given progress ++ without_uses (words_left progress)
+unfolding expanded_of
+given-prefix progress none =
+    let split = without_uses-append (take progress.visited (visits_before_fault progress.source)) (words_left progress) in
+    rw (← visits_before_fault-all progress.source none) (rw take-append-drop at split)
+
 pub given-few : (progress : Progress) → length (given progress) ≤ progress.visited
 given-few progress =
     let all = take progress.visited (visits_before_fault progress.source) in

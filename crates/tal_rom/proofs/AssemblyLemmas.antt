@@ -1,19 +1,25 @@
 -- The phases of a source.
 use Rattle.tal_rom.proofs.Common.{◌≡◌, ℕ, ◌+◌, ◌<◌, ◌≤◌, true, List, [], length, get_or, Option, Some, None, Err, refl, sym, ◌∙◌, ap, arith}
-use Rattle.tal_rom.proofs.Common.{false_from_ne_true, Fault, Label, expanded_text, Expanded, Gives, or_later, length-encoded, get_or-each, expanded_of}
+use Rattle.tal_rom.proofs.Common.{false_from_ne_true, Fault, Label, expanded_text, Expanded, Gives, length-encoded, get_or-each, expanded_of}
 use Rattle.tal_rom.proofs.Common.{expansion_fault, PlacedWord, Layout, layout_of, LieApart, place_fault, place_fault-none, lie_apart, reference_fault}
 use Rattle.tal_rom.proofs.Common.{Piece, covers, piece_given, pieces_of, rom_image, CoverOnce, first_fault, layout, rom_of, IsAssembled}
 use Rattle.tal_words.specs.declared.fault.AsmStop.{AsmStop}
 use Rattle.tal_words.specs.declared.fault.AsmStop.TheVariants.{Refused, NoMemory}
 use Rattle.tal_words.specs.Comments.{word_fault}
-use Rattle.tal_rom.proofs.Covering.{covers-true}
-use Rattle.tal_rom.proofs.Laying.{no_placed_word}
+use Rattle.tal_labels.specs.Answers.{FindsNone}
+use Rattle.tal_rom.proofs.Moving.{covers-true}
+use Rattle.tal_rom.proofs.Checking.{no_placed_word}
 
--- a pass that stops with a fault stops with that of the source, where that is the source's
+-- a phase that stops with a fault stops with the first of the source, where that is the source's
 pub stopped : {X Y : Type 0} (view : X → Y) (value : Y) (source : List ℕ) (stop : AsmStop) (fault : Option Fault)
-    → ((found : Fault) → fault ≡ Some found → first_fault source ≡ Some found) → Gives view (Err stop) fault value → IsAssembled source (Err stop)
+    → ((found : Fault) → fault ≡ Some found → first_fault source ≡ Some found) → Gives view (Err stop) fault value
+    → FindsNone (Err stop) (first_fault source)
 stopped view value source (Refused found) fault first e = first found e
 stopped view value source NoMemory fault first e = tt
+
+pub refused : (source : List ℕ) (stop : AsmStop) → FindsNone (Err stop) (first_fault source) → IsAssembled source (Err stop)
+refused source (Refused found) e = e
+refused source NoMemory e = tt
 
 -- the fault of each phase, where those before have none
 module _ (source : List ℕ) where
@@ -26,41 +32,27 @@ module _ (source : List ℕ) where
     unfolding first_fault
     expansion_first found e = rw (words_sound, e) refl
 
-    module _ (expansion_sound : expansion_fault source ≡ None) where
-      pub places_first : (found : Fault) → place_fault source (expanded_of source) ≡ Some found → first_fault source ≡ Some found
+    -- the words are those of the source, laid out as its own
+    module _ (expanded : List Expanded) (listed : expanded ≡ expanded_of source) (expansion_sound : expansion_fault source ≡ None) where
+      pub places_first : (found : Fault) → place_fault source expanded ≡ Some found → first_fault source ≡ Some found
       unfolding first_fault
-      places_first found e = rw (words_sound, expansion_sound, e) refl
+      places_first found e = rw (words_sound, expansion_sound, ← listed, e) refl
 
-      pub references_first : place_fault source (expanded_of source) ≡ None → (answer : Option Fault)
-          → reference_fault source (layout source).labels (layout source).words ≡ answer → first_fault source ≡ answer
-      unfolding first_fault
-      references_first places_sound answer e = rw (words_sound, expansion_sound, places_sound, e) refl
+      module _ (placed : Layout) (laid : placed ≡ layout_of source expanded) (places_sound : place_fault source expanded ≡ None) where
+        same : placed ≡ layout source
+        unfolding layout
+        same = rw (laid, listed) refl
 
--- the words are laid out as the source's
-pub laid_out : (source : List ℕ) (expanded : List Expanded) (placed : Layout) → expanded ≡ expanded_of source → placed ≡ layout_of source expanded
-    → placed ≡ layout source
-unfolding layout
-laid_out source expanded placed listed e = e ∙ ap (layout_of source) listed
+        pub references_first : (answer : Option Fault) → reference_fault source placed.labels placed.words ≡ answer → first_fault source ≡ answer
+        unfolding first_fault
+        references_first answer e = rw (words_sound, expansion_sound, ← listed, places_sound, ← same, e) refl
 
--- where no phase has a fault the bytes of the words are the source's
-pub assembled : (source : List ℕ) (expanded : List Expanded) (placed : Layout) (rom : List ℕ) → word_fault source ≡ None
-    → expansion_fault source ≡ None
-    → expanded ≡ expanded_of source → place_fault source expanded ≡ None → placed ≡ layout_of source expanded
-    → reference_fault source placed.labels placed.words ≡ None → rom ≡ rom_image (pieces_of source placed.labels placed.words)
-    → (first_fault source ≡ None) × (rom ≡ rom_of source) × (placed.words ≡ (layout source).words) × (placed.labels ≡ (layout source).labels)
-unfolding rom_of
-assembled source expanded placed rom words_sound expansion_sound listed places_sound e references_sound bytes =
-    let laid = laid_out source expanded placed listed e in (
-      references_first source words_sound expansion_sound (ap (place_fault source) (sym listed) ∙ places_sound) None (ap (λ (l : Layout). reference_fault source l.labels l.words) (sym laid) ∙ references_sound),
-      bytes ∙ ap (λ (l : Layout). rom_image (pieces_of source l.labels l.words)) laid,
-      ap (λ l. l.words) laid,
-      ap (λ l. l.labels) laid,
-    )
-
--- a source without a fault has none of its places
-no_place_fault : (words expansion places references : Option Fault) → or_later words (or_later expansion (or_later places references)) ≡ None
-    → places ≡ None
-no_place_fault words expansion places references e = grind arith
+        -- where no phase has a fault the bytes of the words are the ROM of the source
+        pub assembled : (rom : List ℕ) → reference_fault source placed.labels placed.words ≡ None
+            → rom ≡ rom_image (pieces_of source placed.labels placed.words)
+            → (first_fault source ≡ None) × (rom ≡ rom_of source) × (placed.words ≡ (layout source).words) × (placed.labels ≡ (layout source).labels)
+        unfolding rom_of
+        assembled rom sound bytes = (references_first None sound, rw (bytes, ← same) refl, ap (λ l. l.words) same, ap (λ l. l.labels) same)
 
 module _ (source : List ℕ) (labels : List Label) (words : List PlacedWord) (apart : LieApart source words) where
   -- the piece of a word lies at its place, and is as long as its size says
@@ -93,5 +85,5 @@ module _ (source : List ℕ) (labels : List Label) (words : List PlacedWord) (ap
 pub sound_once : (source : List ℕ) → first_fault source ≡ None → CoverOnce source (layout source).labels (layout source).words
 unfolding first_fault layout
 sound_once source sound =
-    let parts = place_fault-none source (expanded_of source) (no_place_fault _ _ _ _ sound) in
+    let parts = place_fault-none source (expanded_of source) (grind arith) in
     cover_once source _ _ (lie_apart source (expanded_of source) parts.0 parts.1)

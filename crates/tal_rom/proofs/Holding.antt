@@ -1,165 +1,128 @@
--- What a patch holds, with one word more and where targets become known.
-use Rattle.tal_rom.proofs.Common.{◌≡◌, ℕ, ◌+◌, ◌-◌, ◌<◌, Bool, true, false, not, ◌&&◌, ◌||◌, List, [], ◌∷◌, ◌++◌, length, map, Option, Some, None}
-use Rattle.tal_rom.proofs.Common.{cond, refl, sym, ◌∙◌, ap, arith, append-nil, length-append, fold, is_some, option_or, option_map, filter, flat_map}
-use Rattle.tal_rom.proofs.Common.{list_any, list_all, bytes_eq, map-append, length-map, list_any-append, find-append, count_by-le-length}
-use Rattle.tal_rom.proofs.Common.{length-filter, bytes_eq-Decides, Label, Form, Text, Refer, Rune, opens, encoded, reaches, address_named, Hole, Patch}
-use Rattle.tal_rom.proofs.Common.{known_in, wanted_in, byte_at, overlaid, filled_hole, is_reference, Added, waits, is_far, known_piece, PatchEntry}
-use Rattle.tal_rom.proofs.Common.{PatchHolds, ComesNext, new_entry, added_by, holes_by, name_hole, brace_hole, added_span, span_of_entry, AreAscending}
-use Rattle.tal_rom.proofs.Common.{closed_or, closed_last}
-use Rattle.std.proofs.Math.Bool.{and-true, and-false}
+-- What a patch represents, with one word more and where targets become known.
+use Rattle.tal_rom.proofs.Common.{◌≡◌, ℕ, zero, suc, ◌+◌, ◌-◌, ◌<◌, ◌⊎◌, inl, inr, Bool, true, false, not, ◌&&◌, List, [], ◌∷◌, ◌++◌, length, map}
+use Rattle.tal_rom.proofs.Common.{Option, Some, None, cond, if◌then◌else◌, refl, sym, ◌∙◌, ap, arith, append-nil, length-append, fold, is_some, Names}
+use Rattle.tal_rom.proofs.Common.{filter, flat_map, bytes_eq, map-append, list_any-append, count_by-le-length, length-filter, bytes_eq-Decides, Vec}
+use Rattle.tal_rom.proofs.Common.{AllByRecursion, Label, Form, Text, Refer, opens, encoded, address_named, full_name, name_after_rune, expanded_text}
+use Rattle.tal_rom.proofs.Common.{collected, each, each-more, last_of-more, PlacedWord, closed_at, openers_step, scope_after, Hole, Patch, known_in}
+use Rattle.tal_rom.proofs.Common.{wanted_in, byte_at, overlaid, filled_hole, is_reference, Added, waits, is_far, known_piece, added_given, rules}
+use Rattle.tal_rom.proofs.Common.{form_target, scope_behind, PatchModel, PatchHolds, ComesNext, AreFilled, AreOpen, IsOpenAt, hole_at, holes_by}
+use Rattle.tal_rom.proofs.Common.{name_hole, holes_named, added_in, added_span, span_of_word, with_word, with_end, AreAscending}
+use Rattle.std.specs.Option.{IsSome, option_to_list}
+use Rattle.std.proofs.Math.Seq.{take-append_seam}
 use Rattle.std.proofs.lemmas.List.Concat.{flat_map-append}
 use Rattle.std.proofs.lemmas.List.Elements.{filter-append}
-use Rattle.tal_rom.proofs.Moving.{length-overlaid, Settles, nothing, stays, fills, fewer_wait, fit_too, hole_filled, filled_read}
-use Rattle.tal_rom.proofs.Moving.{ascending_push, pushed_read}
+use Rattle.indexmap.proofs.RemoveLemmas.{popped_last}
+use Rattle.tal_words.proofs.OrderLemmas.{collected-more, length-each}
+use Rattle.tal_rom.proofs.Moving.{length-overlaid, Settles, nothing, stays, fills, fewer_wait, fit_too, filled_read, ascending_push, pushed_read}
 
-spans_of : (labels : List Label) (entries : List PatchEntry) → map added_span (map (added_by labels) entries) ≡ map span_of_entry entries
-spans_of labels [] = refl
-spans_of labels (entry ∷ entries) = rw (spans_of labels entries) refl
+module _ (source : List ℕ) (labels : List Label) where
+  abbrev added : List PlacedWord → List PlacedWord → List Added
+  added before words = each (added_given source labels) before words
 
--- one word more
-pub record IsMore (labels : List Label) (entry : PatchEntry) (old new : Patch) : Type 0 where
-  pub memory : new.memory.items ≡ overlaid old.memory.items entry.address (known_piece (added_by labels entry)).bytes
-  pub waiting : new.waiting ≡ old.waiting + length (filter waits (added_by labels entry ∷ []))
-  pub fits : new.fits ≡ (old.fits && not (is_far (added_by labels entry)))
+  pub spans_of : (before words : List PlacedWord) → map added_span (added before words) ≡ map (span_of_word source) words
+  spans_of before [] = refl
+  spans_of before (placed ∷ words) = rw (spans_of (before ++ placed ∷ []) words) refl
+
+-- the word that comes next, by its full name
+abbrev pub next_word : List Label → Form → List ℕ → ℕ → List ℕ → Added
+next_word labels form text address full = record {
+  form = form;
+  text = text;
+  address = address;
+  target = form_target form (if opens text then None else address_named labels full);
+}
+
+-- one word more, which looks up a full name or opens a lambda, if it is a reference
+pub record IsMore (labels : List Label) (word : Added) (full : List ℕ) (opening : Bool) (old new : Patch) : Type 0 where
+  pub memory : new.memory.items ≡ overlaid old.memory.items word.address (known_piece word).bytes
+  pub waiting : new.waiting ≡ old.waiting + length (filter waits (word ∷ []))
+  pub fits : new.fits ≡ (old.fits && not (is_far word))
   pub known : (name : List ℕ) → known_in new.names name ≡ known_in old.names name
-  pub wanted : (name : List ℕ) → wanted_in new.names name ≡ wanted_in old.names name ++ name_hole labels name entry
-  pub openers : new.openers.items ≡ old.openers.items ++ brace_hole entry
+  pub wanted : (name : List ℕ) → wanted_in new.names name ≡ wanted_in old.names name
+      ++ cond (is_some (address_named labels name)) [] (holes_by word.form word.address (not (opens word.text) && bytes_eq name full))
+  pub openers : new.openers.items ≡ old.openers.items ++ cond opening (holes_by word.form word.address true) []
 
-not_either : (a b : Bool) → (not a && not b) ≡ not (a || (b || false))
-not_either a b = grind arith
+-- where a word comes behind openers that are open they stay so, and so do their holes
+module _ (source : List ℕ) (placed : PlacedWord) where
+  abbrev StaysOpen : List PlacedWord → ℕ → Type 0
+  StaysOpen words at = IsOpenAt source (words ++ placed ∷ []) at × (hole_at (words ++ placed ∷ []) at ≡ hole_at words at)
 
-module _ (labels : List Label) (entries : List PatchEntry) (entry : PatchEntry) where
-  pub holds_more : (old new : Patch) → ComesNext entries entry → IsMore labels entry old new → PatchHolds labels entries old
-      → PatchHolds labels (entries ++ entry ∷ []) new
+  one_still : (words : List PlacedWord) (at : ℕ) → IsOpenAt source words at → StaysOpen words at
+  one_still [] at here = absurd here
+  one_still (word ∷ words) zero here = (here, refl)
+  one_still (word ∷ words) (suc at) here = one_still words at here
+
+  pub all_still : (words : List PlacedWord) (openers : List ℕ) → AllByRecursion (IsOpenAt source words) openers
+      → AllByRecursion (IsOpenAt source (words ++ placed ∷ [])) openers
+      × (flat_map (hole_at (words ++ placed ∷ [])) openers ≡ flat_map (hole_at words) openers)
+  all_still words [] all = (tt, refl)
+  all_still words (at ∷ openers) all = grind (arith, one_still words at all.0, all_still words openers all.1)
+
+  hole_last : (words : List PlacedWord) → hole_at (words ++ placed ∷ []) (length words) ≡ holes_by placed.form placed.address true
+  hole_last [] = refl
+  hole_last (word ∷ words) = hole_last words
+
+  holes_more : (words : List PlacedWord) (opening : Bool) (openers : List ℕ) → AllByRecursion (IsOpenAt source words) openers
+      → flat_map (hole_at (words ++ placed ∷ [])) (openers_step opening false (length words) openers)
+      ≡ flat_map (hole_at words) openers ++ cond opening (holes_by placed.form placed.address true) []
+  holes_more words false openers all = (all_still words openers all).1 ∙ sym (append-nil (flat_map (hole_at words) openers))
+  holes_more words true openers all =
+      rw (flat_map-append (hole_at (words ++ placed ∷ [])) openers (length words ∷ []), (all_still words openers all).1, hole_last words, append-nil)
+      refl
+
+module _ (model : PatchModel) (placed : PlacedWord) (form : Form) (text : List ℕ) (address : ℕ)
+    (next : ComesNext model placed form text address) where
+  abbrev full : List ℕ
+  full = full_name (scope_behind model.source model.words) (name_after_rune text)
+
+  abbrev word : Added
+  word = next_word model.labels form text address full
+
+  pub holds_more : (opening : Bool) (old new : Patch) → IsMore model.labels word full opening old new → PatchHolds model old
+      → PatchHolds (with_word opening placed model) new
   unfolding byte_at
-  holds_more old new next more so =
-      let word : Added = added_by labels entry in
-      let words : List Added = map (added_by labels) entries in
-      let all = map-append (added_by labels) entries (entry ∷ []) in
+  holds_more opening old new more so =
+      let words = added_in model in
+      let same : added_given model.source model.labels model.words placed [] ≡ word = rw (next.read, next.here, next.shape, next.unended) refl in
+      let all = each-more (added_given model.source model.labels) (λ b w a c. refl) [] model.words placed ∙ ap (λ w. words ++ w ∷ []) same in
+      let spanned : span_of_word model.source placed ≡ added_span word = rw (next.read, next.here, next.shape) refl in
       record {
-        ascending = rw (map-append span_of_entry entries (entry ∷ [])) (ascending_push _ (span_of_entry entry) so.ascending next.behind);
+        ascending = rw (map-append (span_of_word model.source) model.words (placed ∷ []), spanned)
+            (ascending_push _ (added_span word) so.ascending next.behind);
         size = rw (more.memory, length-overlaid) so.size;
         each = λ at within. rw (more.memory, all)
-            (pushed_read at words word _ (λ some. rw (spans_of labels entries) (next.behind some)) (omega (arith, so.size)) (so.each at within));
+            (pushed_read at words word _ (λ some. rw (spans_of model.source model.labels [] model.words) (next.behind some))
+            (omega (arith, so.size)) (so.each at within));
         waiting = rw (more.waiting, so.waiting, all, filter-append waits words (word ∷ []), length-append (filter waits words)) refl;
-        fits = rw (more.fits, so.fits, all, list_any-append is_far words (word ∷ [])) (not_either (list_any is_far words) (is_far word));
+        fits = rw (more.fits, so.fits, all, list_any-append is_far words (word ∷ [])) (grind arith);
         known = λ name. more.known name ∙ so.known name;
-        wanted = λ name. rw (more.wanted name, so.wanted name, flat_map-append (name_hole labels name) entries (entry ∷ []), append-nil) refl;
-        openers = rw (more.openers, so.openers, flat_map-append brace_hole entries (entry ∷ []), append-nil) refl;
+        wanted = λ name.
+            let all = collected-more (name_hole model.source name) (λ b w a c. refl) [] model.words placed in
+            rw (more.wanted name, so.wanted name, ← next.read, ← next.here, ← next.shape, all) (grind arith);
+        openers =
+            rw (more.openers, so.openers, ← next.here, ← next.shape)
+            (sym (holes_more model.source placed model.words opening model.openers next.open_before));
       }
 
   -- how many wait stays a number of 32 bits
-  pub waiting_small : (patch : Patch) → PatchHolds labels entries patch → ComesNext entries entry → patch.waiting < 4294967295
-  waiting_small patch so next =
-      let words = map (added_by labels) entries in
-      omega (arith, so.waiting, length-filter waits words, count_by-le-length waits words, length-map entries (added_by labels), next.few)
+  pub waiting_small : (patch : Patch) → PatchHolds model patch → patch.waiting < 4294967295
+  waiting_small patch so =
+      let count = length-each (added_given model.source model.labels) [] model.words in
+      omega (arith, so.waiting, length-filter waits (added_in model), count_by-le-length waits (added_in model), count, next.few)
 
 -- the bytes of a word that is no reference do not depend on its text, unless it is one
 pub few_are : (form : Form) (text : List ℕ) → (form ≡ Text → ⊥) → is_reference form ≡ false → encoded form [] 0 0 ≡ encoded form text 0 0
 few_are form text other e = grind arith
 
--- all but memory stays
-pub record IsPut (old new : Patch) : Type 0 where
-  pub waiting : new.waiting ≡ old.waiting
-  pub names : new.names ≡ old.names
-  pub openers : new.openers.items ≡ old.openers.items
+pub no_more : (b : Bool) (xs : List Hole) → xs ≡ xs ++ cond b [] []
+no_more b xs = grind (arith, append-nil)
 
 -- a word that is no reference
-pub put_more : (labels : List Label) (form : Form) (text : List ℕ) (address : ℕ) (full : List ℕ) (old new : Patch) → is_reference form ≡ false
-    → new.memory.items ≡ overlaid old.memory.items address (encoded form text 0 0) → new.fits ≡ old.fits → IsPut old new
-    → IsMore labels (new_entry form text address full) old new
-put_more labels (Refer rune) text address full old new bare memory fits put = cc
-put_more labels form text address full old new bare memory fits put = record {
-  memory = memory;
-  waiting = omega (arith, put.waiting);
-  fits = fits ∙ sym (and-true old.fits);
-  known = λ name. rw put.names refl;
-  wanted = λ name. rw (put.names, append-nil) refl;
-  openers = rw (put.openers, append-nil) refl;
-}
-
--- a reference
-module _ (labels : List Label) (hole : Hole) (text full : List ℕ) (old new : Patch) where
-  abbrev entry : PatchEntry
-  entry = new_entry (Refer hole.rune) text hole.address full
-
-  pub open_more : opens text ≡ true → new.memory.items ≡ old.memory.items → new.fits ≡ old.fits → new.waiting ≡ old.waiting + 1
-      → new.names ≡ old.names → new.openers.items ≡ old.openers.items ++ hole ∷ [] → IsMore labels entry old new
-  open_more e memory fits waiting names openers = record {
-    memory = rw e memory;
-    waiting = rw e waiting;
-    fits = rw e (fits ∙ sym (and-true old.fits));
-    known = λ name. rw names refl;
-    wanted = λ name. rw (e, names, append-nil) refl;
-    openers = rw e openers;
-  }
-
-  module _ (closed : opens text ≡ false) where
-    pub known_target : (target : ℕ) → address_named labels full ≡ Some target → new.memory.items ≡ filled_hole target old.memory.items hole
-        → new.fits ≡ (old.fits && reaches hole.rune hole.address target) → IsPut old new → IsMore labels entry old new
-    known_target target e memory fits put = record {
-      memory = rw (closed, e) (memory ∙ hole_filled target hole.rune text hole.address old.memory.items);
-      waiting = rw (closed, e) (omega (arith, put.waiting));
-      fits = rw (closed, e) (fits ∙ grind arith);
-      known = λ name. rw put.names refl;
-      wanted = λ name. rw (closed, e, put.names, and-false (bytes_eq name full), append-nil) refl;
-      openers = rw (closed, put.openers, append-nil) refl;
-    }
-
-    pub wants_more : address_named labels full ≡ None → new.memory.items ≡ old.memory.items → new.fits ≡ old.fits → new.waiting ≡ old.waiting + 1
-        → new.openers.items ≡ old.openers.items → ((name : List ℕ) → known_in new.names name ≡ known_in old.names name)
-        → ((name : List ℕ) → wanted_in new.names name ≡ wanted_in old.names name ++ cond (bytes_eq name full) (hole ∷ []) [])
-        → IsMore labels entry old new
-    wants_more e memory fits waiting openers known wanted = record {
-      memory = rw (closed, e) memory;
-      waiting = rw (closed, e) waiting;
-      fits = rw (closed, e) (fits ∙ sym (and-true old.fits));
-      known = known;
-      wanted = λ name. rw (wanted name, closed, e) (grind arith);
-      openers = rw (closed, openers, append-nil) refl;
-    }
-
--- the holes of some words get their target
-all_stay : (target : ℕ) (words : List Added) → Settles target words words []
-all_stay target [] = nothing
-all_stay target (word ∷ words) = stays word (all_stay target words)
-
-pub record IsSettled (target : ℕ) (holes : List Hole) (old new : Patch) : Type 0 where
-  pub memory : new.memory.items ≡ fold (filled_hole target) old.memory.items holes
-  pub waiting : new.waiting ≡ old.waiting - length holes
-  pub fits : new.fits ≡ (old.fits && list_all (λ hole. reaches hole.rune hole.address target) holes)
-
-length-filled : (target : ℕ) (holes : List Hole) (memory : List ℕ) → length (fold (filled_hole target) memory holes) ≡ length memory
-length-filled target [] memory = refl
-length-filled target (hole ∷ holes) memory = grind (arith, length-filled target holes (filled_hole target memory hole), length-overlaid)
-
-pub holds_settled : (target : ℕ) (labels labels' : List Label) (entries entries' : List PatchEntry) (holes : List Hole) (old new : Patch)
-    → Settles target (map (added_by labels) entries) (map (added_by labels') entries') holes → IsSettled target holes old new
-    → map span_of_entry entries' ≡ map span_of_entry entries → PatchHolds labels entries old
-    → ((name : List ℕ) → known_in new.names name ≡ address_named labels' name)
-    → ((name : List ℕ) → wanted_in new.names name ≡ flat_map (name_hole labels' name) entries')
-    → new.openers.items ≡ flat_map brace_hole entries'
-    → PatchHolds labels' entries' new
-unfolding byte_at
-holds_settled target labels labels' entries entries' holes old new settles settled spans so known wanted openers =
-    let above : AreAscending (map added_span (map (added_by labels) entries)) = rw (spans_of labels entries) so.ascending in
-    record {
-      ascending = rw spans so.ascending;
-      size = rw (settled.memory, length-filled) so.size;
-      each = λ at within. rw settled.memory (filled_read target at settles old.memory.items above (omega (arith, so.size)) (so.each at within));
-      waiting = rw (settled.waiting, so.waiting, fewer_wait target settles) (omega arith);
-      fits = rw (settled.fits, so.fits) (sym (fit_too target settles));
-      known = known;
-      wanted = wanted;
-      openers = openers;
-    }
-
--- no hole
-pub no_hole : (form : Form) (address : ℕ) → holes_by form address false ≡ []
-no_hole form address = grind arith
-
-hole_if : (form : Form) (address : ℕ) (a b : Bool) → cond a [] (holes_by form address b) ≡ holes_by form address (not a && b)
-hole_if form address a b = grind (arith, no_hole form address)
+pub put_more : (labels : List Label) (form : Form) (text : List ℕ) (address : ℕ) (full : List ℕ) (old : Patch) (memory : Vec ℕ)
+    → is_reference form ≡ false
+    → memory.items ≡ overlaid old.memory.items address (encoded form text 0 0)
+    → IsMore labels (next_word labels form text address full) full false old (record old { memory = memory })
+put_more labels form text address full old memory bare laid = search rules
 
 -- texts that are the same
 pub same_text : (a b : List ℕ) → bytes_eq a b ≡ true → a ≡ b
@@ -171,148 +134,201 @@ text_same a b e = (bytes_eq-Decides a b).1 e
 bytes_eq-swap : (a b : List ℕ) → bytes_eq a b ≡ bytes_eq b a
 bytes_eq-swap a b = grind (arith, same_text a b, same_text b a)
 
--- a label more
-module _ (labels : List Label) (label : Label) where
+-- a name waits where it is the one that is looked up and is not known
+module _ (labels : List Label) (hole : Hole) (full name : List ℕ) where
+  abbrev waiting : List Hole
+  waiting = cond (is_some (address_named labels name)) [] (holes_by (Refer hole.rune) hole.address (bytes_eq name full))
+
+  pub none_waits : (target : ℕ) → address_named labels full ≡ Some target → waiting ≡ []
+  none_waits target e = grind (arith, same_text name full)
+
+  pub one_waits : address_named labels full ≡ None → waiting ≡ cond (bytes_eq name full) (hole ∷ []) []
+  one_waits e = grind (arith, same_text name full)
+
+length-filled : (target : ℕ) (holes : List Hole) (memory : List ℕ) → length (fold (filled_hole target) memory holes) ≡ length memory
+length-filled target [] memory = refl
+length-filled target (hole ∷ holes) memory = grind (arith, length-filled target holes (filled_hole target memory hole), length-overlaid)
+
+-- holes get their target
+pub holds_settled : (target : ℕ) (model model' : PatchModel) (holes : List Hole) (old new : Patch) (names : Names) (openers : Vec Hole)
+    → Settles target (added_in model) (added_in model') holes → AreFilled target holes (record old { names = names; openers = openers }) new
+    → map (span_of_word model'.source) model'.words ≡ map (span_of_word model.source) model.words → PatchHolds model old
+    → ((name : List ℕ) → known_in names name ≡ address_named model'.labels name)
+    → ((name : List ℕ) → wanted_in names name ≡ holes_named model' name)
+    → openers.items ≡ flat_map (hole_at model'.words) model'.openers
+    → PatchHolds model' new
+unfolding byte_at
+holds_settled target model model' holes old new names openers settles settled spans so known wanted held =
+    let above : AreAscending (map added_span (added_in model)) = rw (spans_of model.source model.labels [] model.words) so.ascending in
+    record {
+      ascending = rw spans so.ascending;
+      size = rw (settled.memory, length-filled) so.size;
+      each = λ at within. rw settled.memory (filled_read target at settles old.memory.items above (omega (arith, so.size)) (so.each at within));
+      waiting = rw (settled.waiting, so.waiting, fewer_wait target settles) (omega arith);
+      fits = rw (settled.fits, so.fits) (sym (fit_too target settles));
+      known = λ name. rw settled.names (known name);
+      wanted = λ name. rw settled.names (wanted name);
+      openers = rw settled.openers held;
+    }
+
+-- what is known of names with a label more
+pub known_more : (labels : List Label) (label : Label) (name : List ℕ) → address_named labels label.name ≡ None
+    → cond (bytes_eq name label.name) (Some label.address) (address_named labels name) ≡ address_named (labels ++ label ∷ []) name
+known_more [] label name fresh = grind arith
+known_more (first ∷ labels) label name fresh = grind (arith, known_more labels label name, same_text name label.name)
+
+module _ (source : List ℕ) (labels : List Label) (label : Label) where
   abbrev more : List Label
   more = labels ++ label ∷ []
 
-  abbrev address_if : Bool → Option ℕ
-  address_if named = cond named (Some label.address) None
-
-  address_by : (o : Option Label) (b : Bool) → option_map (λ label. label.address) (option_or o (cond b (Some label) None))
-      ≡ option_or (option_map (λ label. label.address) o) (address_if b)
-  address_by o b = grind arith
-
-  address_more : (name : List ℕ) → address_named more name ≡ option_or (address_named labels name) (address_if (bytes_eq name label.name))
-  address_more name = rw (find-append (λ label. bytes_eq name label.name) labels (label ∷ [])) (address_by _ (bytes_eq name label.name))
-
   module _ (fresh : address_named labels label.name ≡ None) where
-    -- what is known of names with the label
-    known_by : (b : Bool) (o : Option ℕ) → (b ≡ true → o ≡ None) → cond b (Some label.address) o ≡ option_or o (address_if b)
-    known_by b o none = grind arith
+    -- which words wait for a name with the label
+    pub wanted_more : (name : List ℕ) (holes : List Hole)
+        → cond (bytes_eq name label.name) [] (cond (is_some (address_named labels name)) [] holes) ≡ cond (is_some (address_named more name)) [] holes
+    wanted_more name holes = rw (← known_more labels label name fresh) (grind arith)
 
-    pub known_more : (name : List ℕ) → cond (bytes_eq name label.name) (Some label.address) (address_named labels name) ≡ address_named more name
-    known_more name = rw (address_more name) (known_by (bytes_eq name label.name) _ (λ same. rw (same_text name label.name same) fresh))
+    -- a word by the labels and by one more
+    settle_one : (form : Form) (text : List ℕ) (at : ℕ) (lambda before after : Option ℕ) (opening named : Bool)
+        (old new : List Added) (holes : List Hole)
+        → (named ≡ true → (before ≡ None) × (after ≡ Some label.address)) → (named ≡ false → after ≡ before) → Settles label.address old new holes
+        → Settles label.address
+        (record { form = form; text = text; address = at; target = form_target form (if opening then lambda else before) } ∷ old)
+        (record { form = form; text = text; address = at; target = form_target form (if opening then lambda else after) } ∷ new)
+        (holes_by form at (not opening && named) ++ holes)
+    settle_one (Refer rune) text at lambda before after true named old new holes here there rest = stays _ rest
+    settle_one (Refer rune) text at lambda before after false false old new holes here there rest = rw (there refl) (stays _ rest)
+    settle_one (Refer rune) text at lambda before after false true old new holes here there rest =
+        rw ((here refl).0, (here refl).1) (fills rune text at rest)
+    settle_one form text at lambda before after opening named old new holes here there rest = stays _ rest
 
-    -- the entries by the labels and by one more
-    abbrev SettlesOne : Form → List ℕ → ℕ → List ℕ → Option ℕ → Type 0
-    SettlesOne form text address full lambda =
-        let entry : PatchEntry = record { form = form; text = text; address = address; full = full; lambda = lambda } in
-        (old new : List Added) (holes : List Hole) → Settles label.address old new holes
-        → Settles label.address (added_by labels entry ∷ old) (added_by more entry ∷ new) (name_hole labels label.name entry ++ holes)
+    named_after : (full : List ℕ)
+        → (bytes_eq label.name full ≡ true → (address_named labels full ≡ None) × (address_named more full ≡ Some label.address))
+        × (bytes_eq label.name full ≡ false → address_named more full ≡ address_named labels full)
+    named_after full = (
+      λ named. rw (sym (same_text label.name full named), ← known_more labels label label.name fresh, text_same label.name label.name refl)
+          (fresh, refl),
+      λ other. rw (← known_more labels label full fresh, bytes_eq-swap full label.name, other) refl,
+    )
 
-    refer_one : (rune : Rune) (text : List ℕ) (address : ℕ) (full : List ℕ) (lambda : Option ℕ) (opening named : Bool)
-        → opens text ≡ opening → bytes_eq label.name full ≡ named → SettlesOne (Refer rune) text address full lambda
-    refer_one rune text address full lambda true named e f old new holes rest = rw e (stays _ rest)
-    refer_one rune text address full lambda false false e f old new holes rest =
-        rw (e, ← known_more full, bytes_eq-swap full label.name, f) (stays _ rest)
-    refer_one rune text address full lambda false true e f old new holes rest =
-        let same : full ≡ label.name = sym (same_text label.name full f) in
-        let none : address_named labels full ≡ None = rw same fresh in
-        rw (e, f, ← known_more full, text_same full label.name same, none) (fills rune text address rest)
+    pub settle_label : (before words : List PlacedWord) → Settles label.address (added source labels before words) (added source more before words)
+        (collected (name_hole source label.name) before words)
+    settle_label before [] = nothing
+    settle_label before (placed ∷ words) =
+        let text = expanded_text source placed.word in
+        let full = full_name (scope_behind source before) (name_after_rune text) in
+        settle_one placed.form text placed.address placed.lambda _ _ (opens text) (bytes_eq label.name full) _ _ _
+        (named_after full).0 (named_after full).1 (settle_label (before ++ placed ∷ []) words)
 
-    settle_one : (form : Form) (text : List ℕ) (address : ℕ) (full : List ℕ) (lambda : Option ℕ) → SettlesOne form text address full lambda
-    settle_one (Refer rune) text address full lambda = refer_one rune text address full lambda _ _ refl refl
-    settle_one form text address full lambda = λ old new holes rest. stays _ rest
+-- the end of a lambda
+all_stay : (target : ℕ) (words : List Added) → Settles target words words []
+all_stay target [] = nothing
+all_stay target (word ∷ words) = stays word (all_stay target words)
 
-    pub settle_label : (entries : List PatchEntry)
-        → Settles label.address (map (added_by labels) entries) (map (added_by more) entries) (flat_map (name_hole labels label.name) entries)
-    settle_label [] = nothing
-    settle_label (entry ∷ entries) = settle_one entry.form entry.text entry.address entry.full entry.lambda _ _ _ (settle_label entries)
+module _ (source : List ℕ) where
+  -- words behind the same ones have the same full names
+  abbrev AreSame : List PlacedWord → List PlacedWord → Type 0
+  AreSame before other = map (λ (placed : PlacedWord). placed.word) before ≡ map (λ (placed : PlacedWord). placed.word) other
 
-    -- which holes wait for a name with the label
-    waits_by_label : (opening here named same : Bool) (o : Option ℕ) → (here ≡ true → same ≡ named)
-        → (not named && (not opening && here && not (is_some o))) ≡ (not opening && here && not (is_some (option_or o (address_if same))))
-    waits_by_label opening here named same o e = grind arith
+  more_same : (before other : List PlacedWord) (placed : PlacedWord) → AreSame before other → AreSame (before ++ placed ∷ []) (other ++ placed ∷ [])
+  more_same before other placed e = rw (map-append (λ p. p.word) before (placed ∷ []), map-append (λ p. p.word) other (placed ∷ []), e) refl
 
-    wanted_one : (name : List ℕ) (entry : PatchEntry) → cond (bytes_eq name label.name) [] (name_hole labels name entry) ≡ name_hole more name entry
-    wanted_one name entry =
-        hole_if entry.form entry.address (bytes_eq name label.name) _
-        ∙ ap (holes_by entry.form entry.address) (rw (address_more entry.full)
-        (waits_by_label (opens entry.text) (bytes_eq name entry.full) _ _ _ (λ same. rw (same_text name entry.full same) refl)))
+  same_behind : (before other : List PlacedWord) → AreSame before other → scope_behind source before ≡ scope_behind source other
+  unfolding scope_behind
+  same_behind before other e = ap (scope_after source) e
 
-    wanted_all : (b : Bool) (old new : PatchEntry → List Hole) → ((entry : PatchEntry) → cond b [] (old entry) ≡ new entry)
-        → (entries : List PatchEntry) → cond b [] (flat_map old entries) ≡ flat_map new entries
-    wanted_all b old new one [] = grind arith
-    wanted_all b old new one (entry ∷ entries) = grind (arith, one entry, wanted_all b old new one entries)
+  same_added : (labels : List Label) (before other words : List PlacedWord) → AreSame before other
+      → added source labels before words ≡ added source labels other words
+  same_added labels before other [] e = refl
+  same_added labels before other (placed ∷ words) e =
+      rw (same_behind before other e, same_added labels (before ++ placed ∷ []) (other ++ placed ∷ []) words (more_same before other placed e)) refl
 
-    pub wanted_more : (name : List ℕ) (entries : List PatchEntry)
-        → cond (bytes_eq name label.name) [] (flat_map (name_hole labels name) entries) ≡ flat_map (name_hole more name) entries
-    wanted_more name entries = wanted_all (bytes_eq name label.name) _ _ (wanted_one name) entries
+  same_holes : (name : List ℕ) (before other words : List PlacedWord) → AreSame before other
+      → collected (name_hole source name) before words ≡ collected (name_hole source name) other words
+  same_holes name before other [] e = refl
+  same_holes name before other (placed ∷ words) e =
+      rw (same_behind before other e, same_holes name (before ++ placed ∷ []) (other ++ placed ∷ []) words (more_same before other placed e)) refl
 
--- entries of which the last open lambda gets its end
-pub record Closes (labels : List Label) (address : ℕ) (entries closed : List PatchEntry) (prefix : List Hole) (hole : Hole) : Type 0 where
-  pub settles : Settles address (map (added_by labels) entries) (map (added_by labels) closed) (hole ∷ [])
-  pub openers : flat_map brace_hole closed ≡ prefix
-  pub spans : map span_of_entry closed ≡ map span_of_entry entries
-  pub wanted : (name : List ℕ) → flat_map (name_hole labels name) closed ≡ flat_map (name_hole labels name) entries
+  module _ (address : ℕ) where
+    ended_same : (before : List PlacedWord) (placed : PlacedWord)
+        → AreSame (before ++ record placed { lambda = Some address } ∷ []) (before ++ placed ∷ [])
+    ended_same before placed =
+        rw (map-append (λ p. p.word) before (placed ∷ []), map-append (λ p. p.word) before (record placed { lambda = Some address } ∷ [])) refl
+
+    settle_at : (labels : List Label) (at : ℕ) (before words : List PlacedWord) → IsOpenAt source words at
+        → Settles address (added source labels before words) (added source labels before (closed_at at address words)) (hole_at words at)
+    settle_at labels at before [] here = absurd here
+    settle_at labels zero before (placed ∷ words) here =
+        rw (same_added labels _ _ words (ended_same before placed), here.shape, here.opening, here.unended)
+        (fills here.rune (expanded_text source placed.word) placed.address (all_stay address _))
+    settle_at labels (suc at) before (placed ∷ words) here = stays _ (settle_at labels at (before ++ placed ∷ []) words here)
+
+    closed_spans : (at : ℕ) (words : List PlacedWord) → map (span_of_word source) (closed_at at address words) ≡ map (span_of_word source) words
+    closed_spans at [] = refl
+    closed_spans zero (placed ∷ words) = refl
+    closed_spans (suc at) (placed ∷ words) = rw (closed_spans at words) refl
+
+    closed_names : (name : List ℕ) (at : ℕ) (before words : List PlacedWord)
+        → collected (name_hole source name) before (closed_at at address words) ≡ collected (name_hole source name) before words
+    closed_names name at before [] = refl
+    closed_names name zero before (placed ∷ words) = rw (same_holes name _ _ words (ended_same before placed)) refl
+    closed_names name (suc at) before (placed ∷ words) = rw (closed_names name at (before ++ placed ∷ []) words) refl
+
+    closed_hole : (at : ℕ) (words : List PlacedWord) (other : ℕ) → hole_at (closed_at at address words) other ≡ hole_at words other
+    closed_hole at [] other = refl
+    closed_hole zero (placed ∷ words) zero = refl
+    closed_hole zero (placed ∷ words) (suc other) = refl
+    closed_hole (suc at) (placed ∷ words) zero = refl
+    closed_hole (suc at) (placed ∷ words) (suc other) = closed_hole at words other
+
+    closed_holes : (at : ℕ) (words : List PlacedWord) (others : List ℕ)
+        → flat_map (hole_at (closed_at at address words)) others ≡ flat_map (hole_at words) others
+    closed_holes at words [] = refl
+    closed_holes at words (other ∷ others) = rw (closed_hole at words other, closed_holes at words others) refl
+
+    open_hole : (words : List PlacedWord) (at : ℕ) → IsOpenAt source words at → (hole : Hole) × (hole_at words at ≡ hole ∷ [])
+    open_hole [] at here = absurd here
+    open_hole (placed ∷ words) zero here = (record { rune = here.rune; address = placed.address }, rw here.shape refl)
+    open_hole (placed ∷ words) (suc at) here = open_hole words at here
+
+-- a list by its last item
+by_last : (xs : List ℕ) → (xs ≡ []) ⊎ ((front : List ℕ) × (last : ℕ) × (xs ≡ front ++ last ∷ []))
+by_last [] = inl refl
+by_last (x ∷ xs) = elim (by_last xs) [
+  | inl none ↦ inr ([], x, rw none refl)
+  | inr some ↦ inr (x ∷ some.0, some.1, rw some.2 refl)
+]
 
 pub both_nil : {X : Type 0} (a b : List X) → a ++ b ≡ [] → (a ≡ []) × (b ≡ [])
 both_nil [] b e = (refl, e)
 both_nil (x ∷ a) b e = cc
 
-pub nothing_left : (address : ℕ) (entries : List PatchEntry) → flat_map brace_hole entries ≡ [] → closed_last address entries ≡ entries
-nothing_left address [] e = refl
-nothing_left address (entry ∷ entries) e = (let parts = both_nil (brace_hole entry) (flat_map brace_hole entries) e in rw (parts.1, parts.0) refl)
+last_of_all : (P : ℕ → Type 0) (front : List ℕ) (last : ℕ) → AllByRecursion P (front ++ last ∷ []) → P last
+last_of_all P [] last all = all.0
+last_of_all P (x ∷ front) last all = last_of_all P front last all.1
 
--- the last of some holes is the last of all
-last_part : (own : List Hole) (first : Hole) (rest prefix : List Hole) (last : Hole) → own ++ first ∷ rest ≡ prefix ++ last ∷ []
-    → (inner : List Hole) × (first ∷ rest ≡ inner ++ last ∷ []) × (own ++ inner ≡ prefix)
-last_part [] first rest prefix last e = (prefix, e, refl)
-last_part (hole ∷ own) first rest [] last e = absurd (omega (arith, ap length e, length-append own (first ∷ rest)))
-last_part (hole ∷ own) first rest (other ∷ prefix) last e =
-    let same : hole ≡ other = cc in
-    let inner = last_part own first rest prefix last (let tails : own ++ first ∷ rest ≡ prefix ++ last ∷ [] = cc in tails) in
-    (inner.0, inner.1, rw (same, inner.2) refl)
-
-module _ (labels : List Label) (address : ℕ) where
-  -- an entry before the one that is closed
-  stays_closing : (entry : PatchEntry) (entries closed : List PatchEntry) (prefix : List Hole) (hole : Hole) → Closes labels address entries closed prefix hole
-      → Closes labels address (entry ∷ entries) (entry ∷ closed) (brace_hole entry ++ prefix) hole
-  stays_closing entry entries closed prefix hole so = record {
-    settles = stays (added_by labels entry) so.settles;
-    openers = rw so.openers refl;
-    spans = rw so.spans refl;
-    wanted = λ name. rw (so.wanted name) refl;
-  }
-
-  -- the entry that is closed, behind which no lambda is open
-  opens_alone : (opening : Bool) (lambda : Option ℕ) → (opening && not (is_some lambda)) ≡ true → (opening ≡ true) × (lambda ≡ None)
-  opens_alone opening lambda e = grind arith
-
-  abbrev entry_by : Form → List ℕ → ℕ → List ℕ → Option ℕ → PatchEntry
-  entry_by form text at full lambda = record { form = form; text = text; address = at; full = full; lambda = lambda }
-
-  one_closing : (form : Form) (text : List ℕ) (at : ℕ) (full : List ℕ) (lambda : Option ℕ) (opened : Bool) (prefix : List Hole)
-      → (opens text && not (is_some lambda)) ≡ opened → (entries : List PatchEntry) → flat_map brace_hole entries ≡ []
-      → (hole : Hole) → holes_by form at opened ≡ prefix ++ hole ∷ []
-      → Closes labels address (entry_by form text at full lambda ∷ entries) (entry_by form text at full (Some address) ∷ entries) prefix hole
-  one_closing (Refer rune) text at full lambda true [] e entries none hole own =
-      let parts = opens_alone (opens text) lambda e in
-      record {
-        settles = rw (parts.0, parts.1, ← own) (fills rune text at (all_stay address (map (added_by labels) entries)));
-        openers = rw (parts.0, none) refl;
-        spans = refl;
-        wanted = λ name. refl;
-      }
-  one_closing form text at full lambda opened prefix e entries none hole own =
-      absurd (omega (arith, ap length own, length-append prefix (hole ∷ [])))
-
-  abbrev ClosesLast : List PatchEntry → Type 0
-  ClosesLast entries = (prefix : List Hole) (hole : Hole) → flat_map brace_hole entries ≡ prefix ++ hole ∷ []
-      → Closes labels address entries (closed_last address entries) prefix hole
-
-  pub closes_last : (entries : List PatchEntry) → ClosesLast entries
-  closes_last [] prefix hole e = absurd (omega (arith, ap length e, length-append prefix (hole ∷ [])))
-  closes_last (entry ∷ entries) prefix hole e = by (flat_map brace_hole entries) (brace_hole entry) refl refl e (closes_last entries)
-    where
-      by : (holes own : List Hole) → flat_map brace_hole entries ≡ holes → brace_hole entry ≡ own → own ++ holes ≡ prefix ++ hole ∷ []
-          → ClosesLast entries
-          → Closes labels address (entry ∷ entries) (closed_or address entry entries (closed_last address entries) holes own) prefix hole
-      by (first ∷ rest) own f g e later =
-          let last = last_part own first rest prefix hole e in
-          let whole : brace_hole entry ++ last.0 ≡ prefix = rw g last.2 in
-          rw (← whole) (stays_closing entry entries (closed_last address entries) last.0 hole (later last.0 hole (f ∙ last.1)))
-      by [] [] f g e later = absurd (omega (arith, ap length e, length-append prefix (hole ∷ [])))
-      by [] (first ∷ own) f g e later =
-          one_closing entry.form entry.text entry.address entry.full entry.lambda _ prefix refl entries f hole (g ∙ sym (append-nil (first ∷ own)) ∙ e)
+-- the last hole of the openers was popped and filled
+pub holds_end : (address : ℕ) (model : PatchModel) (left : Vec Hole) (last : Option Hole) (old new : Patch) → AreOpen model → PatchHolds model old
+    → old.openers.items ≡ left.items ++ option_to_list last → (0 < length old.openers.items → IsSome last)
+    → AreFilled address (option_to_list last) (record old { openers = left }) new → PatchHolds (with_end address model) new
+holds_end address model left last old new all so rest some filled = elim (by_last model.openers) [
+  | inl none ↦ (
+      let parts = both_nil left.items (option_to_list last) (sym rest ∙ so.openers ∙ rw none refl) in
+      rw none
+      (holds_settled address model (record model { openers = [] }) [] old new old.names left (all_stay address _) (rw parts.1 at filled) refl so
+      so.known so.wanted parts.0))
+  | inr parts ↦ (
+      let words = model.words in
+      let here = last_of_all (IsOpenAt model.source words) parts.0 parts.1 (rw parts.2 at all) in
+      let hole = open_hole model.source address words parts.1 here in
+      let whole : flat_map (hole_at words) parts.0 ++ hole.0 ∷ [] ≡ left.items ++ option_to_list last =
+      rw (← hole.1) (sym (rw (parts.2, flat_map-append (hole_at words) parts.0 (parts.1 ∷ []), append-nil) at so.openers) ∙ rest) in
+      let long = ap length (whole ∙ sym rest) in
+      let found = popped_last _ _ hole.0 last whole (some (omega (arith, long, length-append (flat_map (hole_at words) parts.0) (hole.0 ∷ [])))) in
+      let size : length (parts.0 ++ parts.1 ∷ []) - 1 ≡ length parts.0 = omega (arith, length-append parts.0 (parts.1 ∷ [])) in
+      rw (parts.2, last_of-more, size, take-append_seam)
+      (holds_settled address model _ (hole.0 ∷ []) old new old.names left
+      (rw hole.1 at (settle_at model.source address model.labels parts.1 [] words here)) (rw found.0 at filled)
+      (closed_spans model.source address parts.1 words) so so.known
+      (λ name. rw (closed_names model.source address name parts.1 [] words) (so.wanted name))
+      (rw (closed_holes model.source address parts.1 words parts.0) found.1)))
+]

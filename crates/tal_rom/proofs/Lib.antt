@@ -1,7 +1,6 @@
 pub mod Common
 pub mod Trimming
-pub mod Covering
-pub mod Laying
+pub mod Checking
 pub mod AssemblyLemmas
 pub mod PlainLemmas
 pub mod Moving

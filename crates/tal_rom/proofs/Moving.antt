@@ -1,20 +1,45 @@
--- Bytes that are laid over others in memory, and references that get their target among words that stay as they are.
+-- The bytes at an address, by the words that cover it or are laid there, and references that get their target.
 use Rattle.tal_rom.proofs.Common.{◌≡◌, ℕ, ◌+◌, ◌<◌, ◌≤◌, Bool, true, false, not, ◌&&◌, List, [], ◌∷◌, ◌++◌, length, get_or, map, Option, Some, None}
 use Rattle.tal_rom.proofs.Common.{cond, find, refl, ◌∙◌, arith, slice_set, fold, unwrap_or, AllByRecursion, filter, list_any, list_all, nat_tests}
 use Rattle.tal_rom.proofs.Common.{map-append, length-set, get_or-set_other, Refer, Rune, size, reaches, all_joined, length-encoded, Hole, Piece}
 use Rattle.tal_rom.proofs.Common.{covers, byte_of_piece, overlaid, filled_hole, Added, waits, is_far, known_piece, added_span, IsAbove, IsBelow}
-use Rattle.tal_rom.proofs.Common.{AreAscending}
+use Rattle.tal_rom.proofs.Common.{AreAscending, find-append}
 use Rattle.std.proofs.lemmas.Grind.{get_or-set_at, get_or_head, get_or_tail}
-use Rattle.tal_rom.proofs.Covering.{covers-true, covers-past, covers-before, read_over, read_of, read_first, more_over}
-use Rattle.tal_rom.proofs.Laying.{some_bytes}
+use Rattle.tal_rom.proofs.Checking.{some_bytes}
+
+-- a word covers the addresses of its bytes, and none before or past them
+pub covers-true : (address : ℕ) (piece : Piece) → covers address piece ≡ true
+    → (piece.address ≤ address) × (address < piece.address + length piece.bytes)
+covers-true address piece e = grind (arith, nat_tests)
+
+pub covers-before : (address : ℕ) (piece : Piece) → address < piece.address → covers address piece ≡ false
+covers-before address piece before = grind (arith, nat_tests)
+
+pub covers-past : (address : ℕ) (piece : Piece) → (0 < length piece.bytes → piece.address + length piece.bytes ≤ address)
+    → covers address piece ≡ false
+covers-past address piece past = grind (arith, nat_tests)
+
+-- the byte at an address where a word lies over what stood there
+abbrev pub read_over : ℕ → Piece → ℕ → ℕ
+read_over address piece value = cond (covers address piece) (byte_of_piece address (Some piece)) value
+
+abbrev pub read_of : ℕ → List Piece → ℕ
+read_of address pieces = byte_of_piece address (find (covers address) pieces)
+
+pub read_first : (address : ℕ) (piece : Piece) (pieces : List Piece)
+    → read_of address (piece ∷ pieces) ≡ read_over address piece (read_of address pieces)
+read_first address piece pieces = grind arith
+
+-- with one word more, which covers no address that one before it covers
+pub more_over : (pieces : List Piece) (piece : Piece) (address value : ℕ) → value ≡ read_of address pieces
+    → (covers address piece ≡ true → find (covers address) pieces ≡ None) → read_over address piece value ≡ read_of address (pieces ++ piece ∷ [])
+more_over pieces piece address value e none = rw (find-append (covers address) pieces (piece ∷ [])) (grind arith)
 
 pub length-overlaid : (memory : List ℕ) (at : ℕ) (bytes : List ℕ) → length (overlaid memory at bytes) ≡ length memory
 length-overlaid memory at [] = refl
 length-overlaid memory at (byte ∷ bytes) = length-overlaid (slice_set memory at byte) (at + 1) bytes ∙ length-set memory at byte
 
 -- what is read at an index is a byte that was laid there, or what stood there
-none_laid : (at i value : ℕ) → value ≡ read_over i (record { address = at; bytes = [] }) value
-none_laid at i value = grind (arith, nat_tests)
 
 one_laid : (memory : List ℕ) (at byte : ℕ) (bytes : List ℕ) (i : ℕ) → i < length memory
     → read_over i (record { address = at + 1; bytes = bytes }) (get_or (slice_set memory at byte) i 0)
@@ -23,7 +48,7 @@ one_laid memory at byte bytes i within = grind (arith, nat_tests, get_or-set_at,
 
 overlaid-read : (memory : List ℕ) (at : ℕ) (bytes : List ℕ) (i : ℕ) → i < length memory
     → get_or (overlaid memory at bytes) i 0 ≡ read_over i (record { address = at; bytes = bytes }) (get_or memory i 0)
-overlaid-read memory at [] i within = none_laid at i _
+overlaid-read memory at [] i within = grind (arith, nat_tests)
 overlaid-read memory at (byte ∷ bytes) i within =
     overlaid-read (slice_set memory at byte) (at + 1) bytes i (omega (arith, length-set memory at byte)) ∙ one_laid memory at byte bytes i within
 
@@ -31,9 +56,7 @@ overlaid-read memory at (byte ∷ bytes) i within =
 pub overlaid-push : (memory : List ℕ) (at : ℕ) (bytes : List ℕ) (byte : ℕ)
     → overlaid memory at (bytes ++ byte ∷ []) ≡ slice_set (overlaid memory at bytes) (at + length bytes) byte
 overlaid-push memory at [] byte = (let here : at + 0 ≡ at = omega arith in rw here refl)
-overlaid-push memory at (first ∷ bytes) byte =
-    let next : at + 1 + length bytes ≡ at + length (first ∷ bytes) = omega arith in
-    rw (overlaid-push (slice_set memory at first) (at + 1) bytes byte, next) refl
+overlaid-push memory at (first ∷ bytes) byte = grind (arith, overlaid-push (slice_set memory at first) (at + 1) bytes byte)
 
 abbrev pub reference : Rune → List ℕ → ℕ → Option ℕ → Added
 reference rune text address target = record { form = Refer rune; text = text; address = address; target = target }

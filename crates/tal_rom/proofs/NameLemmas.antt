@@ -47,23 +47,15 @@ sets old new name before named e there = record { at = λ other. rw e (found_set
 
 -- what is then known of names: where the name is defined, and where one more reference or none waits for it
 module _ (old new : Entries) (name : List ℕ) (named : Named) (changes : Changes old new name named) (other : List ℕ) where
-  same_part : {X : Type 0} (view : Option Named → X) (find : List ℕ → Option Named) → view (Some named) ≡ view (find name)
-      → view (put find name named other) ≡ view (find other)
-  same_part view find e = grind (arith, same_text other name)
-
-  more_part : (more : List Hole) (find : List ℕ → Option Named) → named.holes.items ≡ wanted_of (find name) ++ more
-      → wanted_of (put find name named other) ≡ wanted_of (find other) ++ cond (bytes_eq other name) more []
-  more_part more find e = grind (arith, same_text other name, append-nil)
-
   pub known_same : named.address ≡ known_address (found old name) → known_address (found new other) ≡ known_address (found old other)
-  known_same e = rw (changes.at other) (same_part known_address (found old) e)
+  known_same e = rw (changes.at other) (grind (arith, same_text other name))
 
   pub wanted_same : named.holes.items ≡ wanted_of (found old name) → wanted_of (found new other) ≡ wanted_of (found old other)
-  wanted_same e = rw (changes.at other) (same_part wanted_of (found old) e)
+  wanted_same e = rw (changes.at other) (grind (arith, same_text other name))
 
   pub wanted_more : (more : List Hole) → named.holes.items ≡ wanted_of (found old name) ++ more
       → wanted_of (found new other) ≡ wanted_of (found old other) ++ cond (bytes_eq other name) more []
-  wanted_more more e = rw (changes.at other) (more_part more (found old) e)
+  wanted_more more e = rw (changes.at other) (grind (arith, same_text other name, append-nil))
 
   pub known_defined : (address : ℕ) → named.address ≡ Some address
       → known_address (found new other) ≡ cond (bytes_eq other name) (Some address) (known_address (found old other))

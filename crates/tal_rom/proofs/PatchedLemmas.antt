@@ -14,13 +14,6 @@ none_one : (form : Form) (address : ℕ) (target : Option ℕ) → waits_by form
     → least (reference_kinds form address target) ≡ None
 none_one form address target e f = grind arith
 
--- no word waits, and all fit
-abbrev AllKnown : List Added → Type 0
-AllKnown words = (length (filter waits words) ≡ 0) × (not (list_any is_far words) ≡ true)
-
-known_parts : (word : Added) (words : List Added) → AllKnown (word ∷ words) → (waits word ≡ false) × (is_far word ≡ false) × AllKnown words
-known_parts word words e = grind arith
-
 module _ (source : List ℕ) (labels : List Label) where
   abbrev added : List PlacedWord → List PlacedWord → List Added
   added before words = each (added_given source labels) before words
@@ -36,15 +29,13 @@ module _ (source : List ℕ) (labels : List Label) where
   all_known before (placed ∷ words) e =
       let target = target_of source labels before placed in
       let parts = fault_or-none placed.word.origin (least (reference_kinds placed.form placed.address target)) _ e in
-      let one = one_none placed.form placed.address target parts.0 in
-      let rest = all_known (before ++ placed ∷ []) words parts.1 in
-      (rw one.0 rest.0, rw one.1 rest.1, rw (one.0, one.1, rest.2) refl)
+      grind (arith, one_none placed.form placed.address target parts.0, all_known (before ++ placed ∷ []) words parts.1)
 
-  no_fault : (before words : List PlacedWord) → AllKnown (added before words) → fault_among before words ≡ None
-  no_fault before [] e = refl
-  no_fault before (placed ∷ words) e =
-      let parts = known_parts (added_given source labels before placed words) (added (before ++ placed ∷ []) words) e in
-      rw (none_one placed.form placed.address _ parts.0 parts.1) (no_fault (before ++ placed ∷ []) words parts.2)
+  no_fault : (before words : List PlacedWord) → length (filter waits (added before words)) ≡ 0 → not (list_any is_far (added before words)) ≡ true
+      → fault_among before words ≡ None
+  no_fault before [] e f = refl
+  no_fault before (placed ∷ words) e f =
+      grind (arith, none_one placed.form placed.address (target_of source labels before placed), no_fault (before ++ placed ∷ []) words)
 
 module _ (source : List ℕ) (words : List Expanded) where
   pub when_faultless : reference_fault source (labels_of source words) (placed_of source words) ≡ None
@@ -58,4 +49,4 @@ module _ (source : List ℕ) (words : List Expanded) where
   pub without_known : waiting_count source words ≡ 0 → all_fit source words ≡ true
       → reference_fault source (labels_of source words) (placed_of source words) ≡ None
   unfolding reference_fault waiting_count all_fit added_of
-  without_known e f = no_fault source (labels_of source words) [] (placed_of source words) (e, f)
+  without_known e f = no_fault source (labels_of source words) [] (placed_of source words) e f

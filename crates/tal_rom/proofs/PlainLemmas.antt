@@ -4,14 +4,14 @@ use Rattle.tal_rom.proofs.Common.{AllByRecursion, get_or-append_right, nat_tests
 use Rattle.tal_rom.proofs.Common.{expanded_text, phase_fault, size, TEXT_LIMIT, each, collected, expanded_of, PlacedWord, address_after, labels_of}
 use Rattle.tal_rom.proofs.Common.{lambda_address, placed_given, placed_of, target_of, reference_kinds, validated_reference, reference_fault, Piece}
 use Rattle.tal_rom.proofs.Common.{byte_at, piece_given, pieces_of, rom_image, trimmed, rom_limit, layout, first_fault, rom_of}
-use Rattle.tal_rom.proofs.Covering.{covers-past, read_over, read_of, read_first}
+use Rattle.tal_rom.proofs.Moving.{covers-past, read_over, read_of, read_first}
 use Rattle.tal_rom.proofs.Trimming.{trimmed-image}
 use Rattle.tal_words.specs.PlainTexts.{Item, AreItems, text_of_items, words_of_items}
 use Rattle.tal_words.proofs.PlainTexts.{words_are, no_word_fault, words_plain}
 use Rattle.tal_macros.proofs.PlainLemmas.{expanded_texts, no_expansion_fault}
 use Rattle.tal_labels.specs.PlainWords.{Coded, texts_of_coded, bytes_of_coded, pad_text, is_bare_form, RepresentsWord}
-use Rattle.tal_labels.proofs.PlainLemmas.{all_coded, no_more, Spells, spells_from, shaped, Reaches, reaches_more, reaches_pad}
-use Rattle.tal_labels.proofs.PlainLemmas.{formed_pad, plain_faultless}
+use Rattle.tal_labels.proofs.PlainLemmas.{all_coded, no_more, Spells, spells_from, shaped, Reaches, reaches_more, reaches_pad, formed_pad}
+use Rattle.tal_labels.proofs.PlainLemmas.{plain_faultless}
 use Rattle.tal_rom.specs.PlainWords.{AssemblesTo}
 
 -- no opcode, byte or short is a reference

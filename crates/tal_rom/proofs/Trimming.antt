@@ -1,8 +1,8 @@
 -- Bytes without the zeros at their end, zeros, and what stands in memory from an index on.
 use Rattle.tal_rom.proofs.Common.{◌≡◌, ◌≢◌, ℕ, suc, ◌-◌, ◌<◌, ◌≤◌, List, [], ◌∷◌, length, take, get_or, map, refl, sym, ◌∙◌, ap, arith, length-take}
 use Rattle.tal_rom.proofs.Common.{ne_eqb, get_or_past, get_or-take, get_or-map-range_with_len, length-map-range_with_len, range_with_len, trimmed}
-use Rattle.tal_rom.proofs.Common.{before_trimmed, zero, ◌++◌, drop, replicate, inl, inr, cases_lt, get_or-replicate, length-replicate}
-use Rattle.tal_rom.proofs.Common.{take-append-drop, ◌+◌, ext_get_or, get_or-drop, length-drop}
+use Rattle.tal_rom.proofs.Common.{before_trimmed, zero, ◌++◌, drop, replicate, get_or-replicate, length-replicate, take-append-drop, ◌+◌, ext_get_or}
+use Rattle.tal_rom.proofs.Common.{get_or-drop, length-drop}
 
 -- lists that read the same, with zeros past their ends, are the same without the zeros at their ends
 pub trimmed-same : (xs ys : List ℕ) → ((i : ℕ) → get_or xs i 0 ≡ get_or ys i 0) → trimmed xs ≡ trimmed ys
@@ -40,10 +40,7 @@ trimmed-image f n xs short each =
     grind (arith, get_or-map-range_with_len f 0 n i i 0, get_or_past, length-map-range_with_len f 0 n, each i))
 
 pub zeros_read : (count at : ℕ) → get_or (replicate {A = ℕ} count 0) at 0 ≡ 0
-zeros_read count at = elim (cases_lt at count) [
-  | inl within ↦ get_or-replicate count at 0 0 within
-  | inr past ↦ get_or_past (replicate count 0) at 0 (omega (arith, length-replicate {A = ℕ} count 0))
-]
+zeros_read count at = grind (arith, get_or-replicate, get_or_past, length-replicate)
 
 trimmed-zeros : (count : ℕ) → trimmed (replicate count 0) ≡ []
 unfolding trimmed
@@ -57,10 +54,7 @@ trimmed-before (byte ∷ bytes) count = ap (before_trimmed byte) (trimmed-before
 
 -- bytes of which zeros at the end are taken away are trimmed to the same
 pub stripped : (bytes : List ℕ) (n count : ℕ) → drop n bytes ≡ replicate count 0 → trimmed (take n bytes) ≡ trimmed bytes
-stripped bytes n count e =
-    sym (trimmed-before (take n bytes) count)
-    ∙ ap (λ (zeros : List ℕ). trimmed (take n bytes ++ zeros)) (sym e)
-    ∙ ap trimmed (take-append-drop n bytes)
+stripped bytes n count e = grind (arith, trimmed-before (take n bytes) count, take-append-drop n bytes)
 
 -- what stands behind so many bytes, as the list of a function
 pub behind_is : (f : ℕ → ℕ) (start count : ℕ) (memory : List ℕ) → length memory ≡ start + count

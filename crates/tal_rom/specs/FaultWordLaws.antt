@@ -85,7 +85,8 @@ module _ (P : Word → Type 0) where
   abbrev IsOfPlaced : PlacedWord → Type 0
   IsOfPlaced placed = P placed.word.origin
 
-  visits_validated : (before : ℕ) (words : List Visited) → AllByRecursion IsOfVisit words → AllByRecursion IsValidated (validated_visits before words)
+  visits_validated : (before : ℕ) (words : List Visited) → AllByRecursion IsOfVisit words
+      → AllByRecursion IsValidated (validated_visits before words)
   visits_validated before [] all = tt
   visits_validated before (word ∷ words) all = (all.0, visits_validated (before + 1) words all.1)
 

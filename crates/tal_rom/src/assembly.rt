@@ -1,8 +1,9 @@
 //! From a source to its ROM.
 
-ghost use Rattle.std.specs.Prelude.{◌≡◌, ◌≤◌, List, None, IfOk, IfSome, length, [], ℕ};
+ghost use Rattle.std.specs.Prelude.{◌≡◌, ◌≤◌, List, None, IfOk, MatchOption, is_some, true, length, [], ℕ};
 ghost use Rattle.uxn_limits.specs.declared.limits.TheConstants.{TEXT_LIMIT};
 ghost use Rattle.tal_words.specs.Comments.{words_of, word_fault};
+ghost use Rattle.tal_labels.specs.Answers.{FindsNone};
 ghost use Rattle.tal_rom.specs.Rom.{rom_limit};
 ghost use Rattle.tal_rom.specs.Assembly.{IsAssembled, first_fault, layout};
 ghost use Rattle.tal_rom.specs.Answers.{CoverOnce};
@@ -10,7 +11,7 @@ ghost use Rattle.tal_rom.specs.Patchers.{WerePatched};
 ghost use Rattle.tal_rom.specs.Passing.{AreAdded, PassGoesOn, IsOnItsWay};
 
 use crate::patcher::Patcher;
-use crate::rom::rom_of;
+use crate::references::check_references;
 use std::alloc::{AllocError, Global};
 use std::marker::Model;
 use tal_labels::{Placed, PlacedWord, Placer, place};
@@ -70,7 +71,10 @@ pub fn assemble(alloc: Global, source: &[u8]) -> Result<Assembly, AsmStop>
     let words = words(alloc, source)?;
     match in_one_pass(alloc, source, &words)? {
         Some(assembly) => Ok(assembly),
-        None => by_phases(alloc, source, &words),
+        None => {
+            check_phases(alloc, source, &words)?;
+            unreachable!()
+        }
     }
 }
 
@@ -80,7 +84,7 @@ fn in_one_pass(alloc: Global, source: &[u8], words: &[Word]) -> Result<Option<As
     requires words { words.now ≡ words_of source.now }
     requires sound { word_fault source.now ≡ None }
     requires short { length source.now ≤ TEXT_LIMIT }
-    ensures { IfOk result (λ found. IfSome found (λ assembly. IsAssembled source.now (Ok assembly))) }
+    ensures { IfOk result (λ found. MatchOption found (is_some (first_fault source.now) ≡ true) (λ assembly. IsAssembled source.now (Ok assembly))) }
 {
     let mut patcher = Patcher::new(alloc)?;
     match add_all(alloc, source, words, &mut patcher)? {
@@ -135,7 +139,7 @@ fn add_all(
     requires words { words.now ≡ words_of source.now }
     requires short { length source.now ≤ TEXT_LIMIT }
     requires patched { WerePatched source.now [] patcher.old }
-    ensures { IfOk result (λ all. IfSome all (λ placer. AreAdded source.now placer patcher.new)) }
+    ensures { IfOk result (λ all. MatchOption all (is_some (first_fault source.now) ≡ true) (λ placer. AreAdded source.now placer patcher.new)) }
 {
     let mut expander = Expander::new(alloc, source, words);
     let mut placer = Placer::new(alloc);
@@ -156,7 +160,7 @@ fn with_all(
 ) -> Result<Option<Assembly>, AllocError>
     requires sound { word_fault source.now ≡ None }
     requires all { AreAdded source.now placer patcher.now }
-    ensures { IfOk result (λ found. IfSome found (λ assembly. IsAssembled source.now (Ok assembly))) }
+    ensures { IfOk result (λ found. MatchOption found (is_some (first_fault source.now) ≡ true) (λ assembly. IsAssembled source.now (Ok assembly))) }
 {
     if patcher.waiting() > 0 || !patcher.fits() {
         return Ok(None);
@@ -170,17 +174,16 @@ fn with_all(
     }
 }
 
-/// The assembly of a source, which has these words and no fault before that of a macro, phase by phase, or its first fault.
-pub fn by_phases(alloc: Global, source: &[u8], words: &[Word]) -> Result<Assembly, AsmStop>
+/// Finds the first fault of a source, which has these words and no fault before that of a macro, phase by phase.
+fn check_phases(alloc: Global, source: &[u8], words: &[Word]) -> Result<(), AsmStop>
     requires words { words.now ≡ words_of source.now }
     requires sound { word_fault source.now ≡ None }
     requires short { length source.now ≤ TEXT_LIMIT }
-    ensures { IsAssembled source.now result }
+    ensures { FindsNone result (first_fault source.now) }
 {
     let expanded = expand(alloc, source, words)?;
     let placed = place(alloc, source, &expanded)?;
-    let rom = rom_of(alloc, source, &placed)?;
-    Ok(Assembly { rom, placed })
+    check_references(alloc, source, &placed)
 }
 
 /// In a source without a fault at most one word covers an address, and each word has as many bytes as

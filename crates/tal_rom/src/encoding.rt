@@ -1,11 +1,11 @@
 //! The bytes that words represent.
 
-ghost use Rattle.std.specs.Prelude.{◌≡◌, ◌∷◌, [], ◌++◌, ◌≤◌, OnOk, false, length};
-ghost use Rattle.tal_words.specs.Forms.{encoded, encoded_reference, distance as distance_between, short_bytes as bytes_of_short, low_byte as byte_of_short};
+ghost use Rattle.std.specs.Prelude.{◌≡◌, ◌∷◌, [], ◌≤◌, false, length};
+ghost use Rattle.tal_words.specs.Forms.{encoded, encoded_reference, distance as distance_between};
+ghost use Rattle.tal_words.specs.Forms.{short_bytes as bytes_of_short, low_byte as byte_of_short};
 ghost use Rattle.tal_rom.specs.Filling.{is_reference};
 
 use arrayvec::ArrayVec;
-use std::alloc::AllocError;
 use tal_words::{Form, Rune};
 use uxn_limits::addresses;
 
@@ -98,29 +98,5 @@ pub fn few_bytes(form: Form) -> ArrayVec<u8, 3>
         Form::Raw2(short) => few(&short_bytes(short as u64)),
         Form::Lit2(short) => short_behind(LIT2, short as u64),
         _ => few(&[]),
-    }
-}
-
-/// Appends the bytes of a word at an address, with a target if it is a reference.
-pub fn append_word(
-    rom: &mut Vec<u8>,
-    form: Form,
-    text: &[u8],
-    address: u64,
-    target: u64,
-) -> Result<(), AllocError>
-    requires at { address ≤ 65536 }
-    requires to { target ≤ 65535 }
-    ensures { OnOk result (rom.new.items ≡ rom.old.items ++ encoded form text.now address target) }
-{
-    match form {
-        Form::Text => match text {
-            [_, rest @ ..] => rom.extend_from_slice(rest),
-            [] => Ok(()),
-        },
-        Form::Refer(rune) => {
-            rom.extend_from_slice(reference_bytes(rune, address, target).as_slice())
-        }
-        _ => rom.extend_from_slice(few_bytes(form).as_slice()),
     }
 }

@@ -1,14 +1,15 @@
 //! Memory as words are added, and the references in it that wait.
 
-ghost use Rattle.std.specs.Prelude.{◌≡◌, ◌<◌, ◌≤◌, ◌^◌, ◌-◌, ◌+◌, ◌&&◌, ◌∷◌, [], ◌++◌, None, Some, ℕ, List, OnOk, OnErr, IfOk, fold, length, take, true, false, slice_index};
-ghost use Rattle.std.specs.List.{list_all};
+ghost use Rattle.std.specs.Prelude.{◌≡◌, ◌<◌, ◌≤◌, ◌&&◌, ◌∷◌, [], None, ℕ, List, OnOk, OnErr, IfOk, length, true, false, slice_index};
 ghost use Rattle.tal_words.specs.Braces.{opens};
 ghost use Rattle.tal_words.specs.Forms.{size, reaches as reaches_target};
 ghost use Rattle.tal_words.specs.Labels.{address_named};
-ghost use Rattle.tal_words.specs.declared.name.Label.{Label as LabelValue};
+ghost use Rattle.tal_words.specs.Names.{full_name as full_name_in, name_after_rune as name_of_reference};
 ghost use Rattle.tal_words.specs.declared.form.Form.TheVariants.{Refer};
+ghost use Rattle.tal_labels.specs.declared.placed.PlacedWord.{PlacedWord as PlacedValue};
 ghost use Rattle.tal_rom.specs.Filling.{overlaid, filled_hole, is_reference};
-ghost use Rattle.tal_rom.specs.Patchers.{PatchEntry, PatchHolds, ComesNext, new_entry, closed_last, memory_size};
+ghost use Rattle.tal_rom.specs.Patchers.{PatchModel, PatchHolds, ComesNext, AreFilled, AreOpen, with_word, with_label, with_end, memory_size};
+ghost use Rattle.tal_rom.specs.References.{scope_behind};
 
 use crate::encoding::{few_bytes, reference_bytes};
 use crate::hole::Hole;
@@ -58,7 +59,7 @@ fn zeros(alloc: Global) -> Result<Vec<u8>, AllocError>
 impl Patch {
     /// Memory of zeros, to which no word was added.
     pub fn new(alloc: Global) -> Result<Patch, AllocError>
-        ensures { IfOk result (λ patch. PatchHolds [] [] patch) }
+        ensures { IfOk result (λ patch. (source : List ℕ) → PatchHolds (record { source = source; labels = []; words = []; openers = [] }) patch) }
     {
         Ok(Patch {
             memory: zeros(alloc)?,
@@ -108,11 +109,7 @@ impl Patch {
 
     /// Puts the bytes of references that waited for this target.
     fn fill_all(&mut self, holes: &[Hole], target: u16)
-        ensures memory { self.new.memory.items ≡ fold (filled_hole target) self.old.memory.items holes.now }
-        ensures fits { self.new.fits ≡ (self.old.fits && list_all (λ hole. reaches_target hole.rune hole.address target) holes.now) }
-        ensures waiting { self.new.waiting ≡ self.old.waiting - length holes.now }
-        ensures names { self.new.names ≡ self.old.names }
-        ensures openers { self.new.openers ≡ self.old.openers }
+        ensures { AreFilled target holes.now self.old self.new }
     {
         for hole in holes {
             self.fill(*hole, target);
@@ -124,9 +121,8 @@ impl Patch {
     pub fn put_word(&mut self, form: Form, text: &[u8], address: u64)
         requires bare { is_reference form ≡ false }
         requires at { 0 < size form text.now → address ≤ 65536 }
-        ensures { (labels : List LabelValue) (entries : List PatchEntry) (full : List ℕ)
-            → ComesNext entries (new_entry form text.now address full)
-            → PatchHolds labels entries self.old → PatchHolds labels (entries ++ new_entry form text.now address full ∷ []) self.new }
+        ensures { (model : PatchModel) (placed : PlacedValue) → ComesNext model placed form text.now address
+            → PatchHolds model self.old → PatchHolds (with_word false placed model) self.new }
     {
         match form {
             Form::Text => {
@@ -139,11 +135,10 @@ impl Patch {
 
     /// Adds a reference that opens a lambda.
     pub fn open(&mut self, hole: Hole) -> Result<(), AllocError>
-        ensures ok { OnOk result ((labels : List LabelValue) (entries : List PatchEntry) (text full : List ℕ) → opens text ≡ true
-            → ComesNext entries (new_entry (Refer hole.rune) text hole.address full)
-            → PatchHolds labels entries self.old → PatchHolds labels (entries ++ new_entry (Refer hole.rune) text hole.address full ∷ []) self.new) }
-        ensures err { OnErr result ((labels : List LabelValue) (entries : List PatchEntry) → PatchHolds labels entries self.old
-            → PatchHolds labels entries self.new) }
+        ensures ok { OnOk result ((model : PatchModel) (placed : PlacedValue) (text : List ℕ) → opens text ≡ true
+            → ComesNext model placed (Refer hole.rune) text hole.address
+            → PatchHolds model self.old → PatchHolds (with_word true placed model) self.new) }
+        ensures err { OnErr result ((model : PatchModel) → PatchHolds model self.old → PatchHolds model self.new) }
     {
         self.openers.push(hole)?;
         self.waiting = self.waiting.saturating_add(1);
@@ -152,12 +147,11 @@ impl Patch {
 
     /// Adds a reference to a full name.
     pub fn refer(&mut self, alloc: Global, name: Vec<u8>, hole: Hole) -> Result<(), AllocError>
-        ensures ok { OnOk result ((labels : List LabelValue) (entries : List PatchEntry) (text : List ℕ) → opens text ≡ false
-            → ComesNext entries (new_entry (Refer hole.rune) text hole.address name.items)
-            → PatchHolds labels entries self.old
-            → PatchHolds labels (entries ++ new_entry (Refer hole.rune) text hole.address name.items ∷ []) self.new) }
-        ensures err { OnErr result ((labels : List LabelValue) (entries : List PatchEntry) → PatchHolds labels entries self.old
-            → PatchHolds labels entries self.new) }
+        ensures ok { OnOk result ((model : PatchModel) (placed : PlacedValue) (text : List ℕ) → opens text ≡ false
+            → name.items ≡ full_name_in (scope_behind model.source model.words) (name_of_reference text)
+            → ComesNext model placed (Refer hole.rune) text hole.address
+            → PatchHolds model self.old → PatchHolds (with_word false placed model) self.new) }
+        ensures err { OnErr result ((model : PatchModel) → PatchHolds model self.old → PatchHolds model self.new) }
     {
         match self.names.address_of(name.as_slice()) {
             Some(target) => {
@@ -174,10 +168,9 @@ impl Patch {
 
     /// Defines a full name that is new, and fills the references that waited for it.
     pub fn define(&mut self, alloc: Global, name: Vec<u8>, address: u16) -> Result<(), AllocError>
-        ensures ok { OnOk result ((labels : List LabelValue) (entries : List PatchEntry) → address_named labels name.items ≡ None
-            → PatchHolds labels entries self.old → PatchHolds (labels ++ record { name = name.items; address = address } ∷ []) entries self.new) }
-        ensures err { OnErr result ((labels : List LabelValue) (entries : List PatchEntry) → PatchHolds labels entries self.old
-            → PatchHolds labels entries self.new) }
+        ensures ok { OnOk result ((model : PatchModel) → address_named model.labels name.items ≡ None
+            → PatchHolds model self.old → PatchHolds (with_label (record { name = name.items; address = address }) model) self.new) }
+        ensures err { OnErr result ((model : PatchModel) → PatchHolds model self.old → PatchHolds model self.new) }
     {
         let holes = self.names.define(alloc, name, address)?;
         self.fill_all(&holes, address);
@@ -186,8 +179,7 @@ impl Patch {
 
     /// Closes the last lambda that is open, and fills the reference that opened it.
     pub fn close(&mut self, address: u16)
-        ensures { (labels : List LabelValue) (entries : List PatchEntry) → PatchHolds labels entries self.old
-            → PatchHolds labels (closed_last address entries) self.new }
+        ensures { (model : PatchModel) → AreOpen model → PatchHolds model self.old → PatchHolds (with_end address model) self.new }
     {
         match self.openers.pop() {
             Some(hole) => self.fill_all(&[hole], address),

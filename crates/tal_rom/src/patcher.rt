@@ -3,7 +3,6 @@
 ghost use Rattle.std.specs.Prelude.{◌≡◌, ◌<◌, ◌≤◌, ◌^◌, ◌-◌, ◌∷◌, ◌++◌, [], ℕ, List, Some, None, OnOk, OnErr, IfOk, length, Ok, true};
 ghost use Rattle.std.specs.Option.{option_map};
 ghost use Rattle.tal_words.specs.declared.span.Expanded.{Expanded as ExpandedWord};
-ghost use Rattle.tal_words.specs.declared.name.Label.{Label as LabelValue};
 ghost use Rattle.tal_words.specs.Source.{expanded_text};
 ghost use Rattle.tal_labels.specs.Adding.{word_added};
 ghost use Rattle.tal_labels.specs.Labels.{defined_name};
@@ -12,7 +11,7 @@ ghost use Rattle.tal_rom.specs.Assembly.{layout, rom_of};
 ghost use Rattle.tal_rom.specs.References.{reference_fault};
 ghost use Rattle.tal_rom.specs.Rom.{trimmed, rom_limit};
 ghost use Rattle.tal_rom.specs.Filling.{is_definition};
-ghost use Rattle.tal_rom.specs.Patchers.{PatchEntry, PatchHolds, HoldsAll, WasGiven, WerePatched};
+ghost use Rattle.tal_rom.specs.Patchers.{PatchModel, PatchHolds, WasGiven, WerePatched, model_of};
 ghost use Rattle.tal_rom.specs.Patching.{waiting_count, all_fit, image_of};
 
 use crate::hole::Hole;
@@ -83,9 +82,8 @@ impl Patcher {
         ensures scope { self.new.scope ≡ self.old.scope }
         ensures added { OnOk result ((words : List ExpandedWord) → length words < 2 ^ 31 - 1 → WerePatched source.now words self.old
             → word_added source.now words word.now.word ≡ Some word.now
-            → HoldsAll source.now (words ++ word.now.word ∷ []) self.new.patch) }
-        ensures err { OnErr result ((labels : List LabelValue) (entries : List PatchEntry) → PatchHolds labels entries self.old.patch
-            → PatchHolds labels entries self.new.patch) }
+            → PatchHolds (model_of source.now (words ++ word.now.word ∷ [])) self.new.patch) }
+        ensures err { OnErr result ((model : PatchModel) → PatchHolds model self.old.patch → PatchHolds model self.new.patch) }
     {
         match word.form {
             Form::Refer(rune) => {
@@ -146,8 +144,8 @@ impl Patcher {
     }
 }
 
-/// Where all words of a source were added to a patcher, their references have no fault exactly where no word waits
-/// and all fit, and the image without the zeros at its end is then the ROM.
+/// Of a source whose words were all added to a patcher: the references have no fault exactly where no word waits and
+/// all fit. Then the image without the zeros at its end is the ROM.
 pub fn patched_sources_are_assembled()
     ensures waits { (source : List ℕ) → reference_fault source (layout source).labels (layout source).words ≡ None
         → (waiting_count source (expanded_of source) ≡ 0) × (all_fit source (expanded_of source) ≡ true) }

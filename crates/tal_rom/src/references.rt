@@ -1,16 +1,18 @@
 //! What references name, and what is wrong with them.
 
 ghost use Rattle.std.specs.Prelude.{◌≡◌, ◌<◌, ◌≤◌, ◌^◌, IfOk};
+ghost use Rattle.tal_labels.specs.Answers.{FindsNone};
+ghost use Rattle.tal_labels.specs.Placing.{LieApart};
 ghost use Rattle.tal_words.specs.Faults.{least};
 ghost use Rattle.tal_words.specs.Forms.{is_near as is_near_target, reaches as reaches_target};
 ghost use Rattle.tal_words.specs.Names.{name_after_rune as name_of_reference, full_name as full_name_in};
 ghost use Rattle.tal_words.specs.Labels.{address_named};
 ghost use Rattle.tal_rom.specs.Answers.{HasAddress};
-ghost use Rattle.tal_rom.specs.References.{target_in, reference_kinds};
+ghost use Rattle.tal_rom.specs.References.{target_in, reference_kinds, reference_fault};
 
 use std::alloc::{AllocError, Global};
-use tal_labels::{Placed, PlacedWord, full_name};
-use tal_words::{FaultKind, Form, Rune, opens, rune_of};
+use tal_labels::{FIRST_SCOPE, Placed, PlacedWord, full_name, next_scope};
+use tal_words::{AsmStop, Fault, FaultKind, Form, Rune, opens, rune_of};
 
 /// The name of a reference: what stands after its rune, or a bare word itself.
 pub fn name_after_rune(text: &[u8]) -> &[u8]
@@ -36,7 +38,7 @@ fn address_in(
 }
 
 /// The target of a word in its scope, where it is a reference that names something.
-pub fn target_in(
+fn target_in(
     alloc: Global,
     placed: &Placed,
     scope: &[u8],
@@ -57,7 +59,7 @@ pub fn target_in(
 }
 
 /// What is wrong with a word at an address, by its target.
-pub fn reference_kind(form: Form, address: u64, target: Option<u16>) -> Option<FaultKind>
+fn reference_kind(form: Form, address: u64, target: Option<u16>) -> Option<FaultKind>
     requires { HasAddress form address }
     ensures { result ≡ least (reference_kinds form address target) }
 {
@@ -94,4 +96,22 @@ fn is_near(address: u64, target: u64) -> bool
     ensures { result ≡ is_near_target address target }
 {
     address + 2 <= target + 128 && target <= address + 129
+}
+
+/// Finds the first fault of the references among placed words, which lie apart.
+pub fn check_references(alloc: Global, source: &[u8], placed: &Placed) -> Result<(), AsmStop>
+    requires { LieApart source.now placed.now.words }
+    ensures { FindsNone result (reference_fault source.now placed.now.labels placed.now.words) }
+{
+    let mut scope = FIRST_SCOPE;
+    let words = placed.words();
+    for word in words {
+        let text = word.word.text.text(source);
+        let target = target_in(alloc, placed, scope, text, word)?;
+        if let Some(kind) = reference_kind(word.form, word.address, target) {
+            return Err(AsmStop::Refused(Fault::new(&word.word.origin, kind)));
+        }
+        scope = next_scope(word.form, scope, text);
+    }
+    Ok(())
 }

@@ -1,7 +1,9 @@
 -- How a file is cut into entries, one entry at a time.
-use Rattle.std.proofs.Common.{◌≡◌, ℕ, suc, ◌+◌, ◌*◌, ◌<◌, ◌≤◌, Bool, true, cond, List, [], ◌∷◌, ◌++◌, length, take, drop, min, Option, Some, None, refl, ap, arith}
+use Rattle.std.proofs.Common.{◌≡◌, ℕ, suc, ◌+◌, ◌*◌, ◌<◌, ◌≤◌, Bool, true, cond, List, [], ◌∷◌, ◌++◌, length, take, drop, min, Option, Some, None}
+use Rattle.std.proofs.Common.{refl, ap, arith}
 use Rattle.std.specs.Prelude.{◌==◌, not}
 use Rattle.std.specs.List.{position_or_len, list_any}
+use Rattle.std.proofs.lemmas.Grind.{common_steps}
 use Rattle.std.proofs.lemmas.Bool.{le-leb}
 use Rattle.std.proofs.lemmas.Bool.Decides.{nat_tests}
 use Rattle.std.proofs.lemmas.List.Sums.{take_while-cons}
@@ -33,14 +35,10 @@ cut_entry (a ∷ b ∷ []) some = refl
 cut_entry (a ∷ b ∷ c ∷ text) some = rw (end_is (c ∷ text), cut_name text c 2 (omega arith)) refl
 
 pub entry_length-some : (rest : List ℕ) → 0 < length rest → 0 < entry_length rest
-entry_length-some [] some = absurd (omega arith)
-entry_length-some (a ∷ []) some = omega arith
-entry_length-some (a ∷ b ∷ text) some = omega arith
+entry_length-some rest some = grind (arith, common_steps)
 
 pub entry_length-within : (rest : List ℕ) → entry_length rest ≤ length rest
-entry_length-within [] = omega arith
-entry_length-within (a ∷ []) = omega arith
-entry_length-within (a ∷ b ∷ text) = omega arith
+entry_length-within rest = grind (arith, common_steps)
 
 -- the first entry has a zero byte where what is left has one, and its name is the same
 same_zero : (text : List ℕ) → list_any (λ byte. byte == 0) (take (name_end text) text) ≡ list_any (λ byte. byte == 0) text

@@ -1,8 +1,8 @@
 -- The nearest label among one label more.
-use Rattle.std.proofs.Common.{◌≡◌, ℕ, ◌<◌, ◌≤◌, Bool, true, false, cond, max, List, [], ◌∷◌, ◌++◌, Option, Some, None, inl, inr, refl, ap, sym, ◌∙◌, arith, append-nil}
-use Rattle.std.specs.Prelude.{◌==◌, nat_le, nat_lt, find}
-use Rattle.std.specs.Option.{option_or}
-use Rattle.std.proofs.lemmas.Bool.{cases_Bool, le-leb, lt-leb, eq-eqb, ltb-true, ltb-false}
+use Rattle.std.proofs.Common.{◌≡◌, ℕ, ◌<◌, ◌≤◌, Bool, true, false, cond, max, List, [], ◌∷◌, ◌++◌, Option, Some, None, refl, ap, sym, ◌∙◌}
+use Rattle.std.proofs.Common.{arith, append-nil}
+use Rattle.std.specs.Prelude.{◌==◌, nat_le, find}
+use Rattle.std.proofs.lemmas.Bool.{le-leb, lt-leb, eq-eqb}
 use Rattle.std.proofs.lemmas.Bool.Decides.{nat_tests}
 use Rattle.std.proofs.lemmas.List.Elements.{filter-append}
 use Rattle.std.proofs.lemmas.List.Folds.{find-append}
@@ -36,19 +36,13 @@ none_found (first ∷ second ∷ labels) address greatest e = grind (arith, nat_
 keeps_first : (labels : List Label) (label found : Label) → first_of_greatest labels ≡ Some found → label.address ≤ found.address
     → first_of_greatest (labels ++ label ∷ []) ≡ Some found
 keeps_first labels label found e low =
-    let at = found_at labels (greatest_address labels) found e in
-    let same : greatest_address (labels ++ label ∷ []) ≡ greatest_address labels = omega (arith, greatest-push labels label) in
-    let split = find-append (at_address (greatest_address labels)) labels (label ∷ []) in
-    ap (λ (n : ℕ). find (at_address n) (labels ++ label ∷ [])) same ∙ split ∙ ap (λ (o : Option Label). option_or o (find (at_address (greatest_address labels)) (label ∷ []))) e
+    let either = find-append (at_address (greatest_address labels)) labels (label ∷ []) in
+    grind (arith, nat_tests, found_at labels (greatest_address labels) found e, greatest-push labels label, either)
 
 -- one label more that lies above the greatest
 takes_above : (labels : List Label) (label : Label) → greatest_address labels < label.address → first_of_greatest (labels ++ label ∷ []) ≡ Some label
 takes_above labels label above =
-    let same : greatest_address (labels ++ label ∷ []) ≡ label.address = omega (arith, greatest-push labels label) in
-    let split = find-append (at_address label.address) labels (label ∷ []) in
-    let here : (label.address == label.address) ≡ true = eq-eqb label.address label.address refl in
-    ap (λ (n : ℕ). find (at_address n) (labels ++ label ∷ [])) same ∙ split
-    ∙ ap (λ (o : Option Label). option_or o (find (at_address label.address) (label ∷ []))) (none_above labels label.address above) ∙ rw here refl
+    grind (arith, nat_tests, greatest-push labels label, find-append (at_address label.address) labels (label ∷ []), none_above labels label.address)
 
 takes_first : (label : Label) → first_of_greatest (label ∷ []) ≡ Some label
 takes_first label = rw (eq-eqb label.address (max label.address 0) (omega arith)) refl
@@ -57,21 +51,14 @@ takes_first label = rw (eq-eqb label.address (max label.address 0) (omega arith)
 nearer : (labels : List Label) (label : Label) (known : Option Label) → first_of_greatest labels ≡ known
     → first_of_greatest (labels ++ label ∷ []) ≡ cond (lies_below known label.address) (Some label) known
 nearer labels label None e = rw (none_found labels (greatest_address labels) refl e) (takes_first label)
-nearer labels label (Some found) e = elim (cases_Bool (nat_lt found.address label.address)) [
-  | inl below ↦
-      let at = found_at labels (greatest_address labels) found e in
-      rw below (takes_above labels label (omega (arith, at, ltb-true found.address label.address below)))
-  | inr above ↦ rw above (keeps_first labels label found e (ltb-false found.address label.address above))
-]
+nearer labels label (Some found) e =
+    grind (arith, nat_tests, found_at labels (greatest_address labels) found, takes_above labels label, keeps_first labels label found)
 
 module _ (labels : List Label) (label : Label) (address : ℕ) (known : Option Label) (so_far : known ≡ nearest_label labels address) where
   -- a label that lies above the address is ignored
   pub passed_over : address < label.address → known ≡ nearest_label (labels ++ label ∷ []) address
   passed_over above =
-      let out = lt-leb label.address address above in
-      let split = filter-append (λ (l : Label). nat_le l.address address) labels (label ∷ []) in
-      let same : labels_up_to (labels ++ label ∷ []) address ≡ labels_up_to labels address = split ∙ rw out (append-nil (labels_up_to labels address)) in
-      so_far ∙ ap first_of_greatest (sym same)
+      rw (filter-append (λ (l : Label). nat_le l.address address) labels (label ∷ []), lt-leb label.address address above, append-nil) so_far
 
   one_more : label.address ≤ address → labels_up_to (labels ++ label ∷ []) address ≡ labels_up_to labels address ++ label ∷ []
   one_more low = filter-append (λ (l : Label). nat_le l.address address) labels (label ∷ []) ∙ rw (le-leb label.address address low) refl

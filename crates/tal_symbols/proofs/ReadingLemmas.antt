@@ -1,7 +1,9 @@
 -- The reading of a file, one entry at a time.
-use Rattle.std.proofs.Common.{◌≡◌, ℕ, ◌+◌, ◌*◌, ◌/◌, ◌%◌, ◌<◌, ◌≤◌, true, List, [], ◌∷◌, ◌++◌, length, take, drop, get_or, map, Option, Some, None, Ok, Err, refl, ap, sym, ◌∙◌, arith, append_assoc, append-nil, length-append, length-drop}
+use Rattle.std.proofs.Common.{◌≡◌, ℕ, ◌+◌, ◌*◌, ◌<◌, ◌≤◌, true, List, [], ◌∷◌, ◌++◌, length, take, drop, get_or, map, Some, None, Ok, Err}
+use Rattle.std.proofs.Common.{refl, ap, sym, ◌∙◌, arith, append_assoc, append-nil, length-append, length-drop}
 use Rattle.std.specs.Prelude.{not, ◌&&◌, nat_lt}
 use Rattle.std.specs.List.{list_any}
+use Rattle.std.proofs.lemmas.Grind.{common_steps}
 use Rattle.std.proofs.lemmas.Bool.{le-ltb}
 use Rattle.std.proofs.lemmas.Bool.Decides.{nat_tests}
 use Rattle.std.proofs.lemmas.List.{take-append-drop, length_push, get_or-append-add}
@@ -10,10 +12,10 @@ use Rattle.std.proofs.lemmas.List.Folds.{list_all-append}
 use Rattle.tal_words.specs.declared.name.Label.{Label}
 use Rattle.tal_words.specs.Source.{is_blank}
 use Rattle.tal_symbols.specs.declared.stop.SymbolKind.{SymbolKind}
-use Rattle.tal_symbols.specs.declared.stop.SymbolKind.TheVariants.{Torn, NoName, BadByte, Long}
+use Rattle.tal_symbols.specs.declared.stop.SymbolKind.TheVariants.{Long}
 use Rattle.uxn_limits.specs.declared.limits.TheConstants.{SYMBOLS_LIMIT}
 use Rattle.tal_symbols.specs.SymbolFile.{entry, symbol_file, is_readable, are_readable}
-use Rattle.tal_symbols.specs.Reading.{Refusal, entries, entry_fault, bad_name, name_before_zero, label_of_entry, first_refusal, refused_at, symbols_in}
+use Rattle.tal_symbols.specs.Reading.{Refusal, entries, entry_fault, bad_name, name_before_zero, label_of_entry, first_refusal, symbols_in}
 use Rattle.tal_symbols.specs.Answers.{entry_length, StopsAtEntry, IsRefusedAtEntry}
 use Rattle.tal_symbols.proofs.Cutting.{whole_entry, cut_entry, entry_length-some, entry_length-within, same_fault}
 
@@ -31,10 +33,7 @@ named_readable (first ∷ rest) e = grind (arith, nat_tests)
 
 -- the entry of the label that is read is the entry
 entry_again : (high low : ℕ) (name : List ℕ) → low < 256 → entry (record { name = name; address = 256 * high + low }) ≡ high ∷ low ∷ (name ++ 0 ∷ [])
-entry_again high low name small =
-    let first : (256 * high + low) / 256 ≡ high = omega arith in
-    let second : (256 * high + low) % 256 ≡ low = omega arith in
-    rw (first, second) refl
+entry_again high low name small = grind (arith, common_steps)
 
 -- one more entry
 pub reads_more : (bytes rest : List ℕ) (labels : List Label) (label : Label) → ((k : ℕ) → k < length bytes → get_or bytes k 0 < 256)
@@ -55,9 +54,8 @@ reads_more bytes rest labels label small reads some sound is_label =
       refusal = reads.refusal ∙ rw (cut, sound, counted) refl;
       all = reads.all ∙ rw (cut, ← is_label) (sym (append_assoc labels (label ∷ []) (map label_of_entry (entries back))));
       parts =
-          reads.parts ∙ ap (λ (text : List ℕ). symbol_file labels ++ text) (sym (take-append-drop (entry_length rest) rest) ∙ ap (λ (text : List ℕ). text ++ back) (sym again))
-          ∙ sym (append_assoc (symbol_file labels) (entry label) back)
-          ∙ ap (λ (text : List ℕ). text ++ back) (sym (flat_map-append entry labels (label ∷ []) ∙ ap (λ (text : List ℕ). symbol_file labels ++ text) (append-nil (entry label))));
+          rw (flat_map-append entry labels (label ∷ []), append-nil (entry label), append_assoc (symbol_file labels) (entry label) back)
+          (rw (← take-append-drop (entry_length rest) rest) at reads.parts ∙ ap (λ (text : List ℕ). symbol_file labels ++ (text ++ back)) (sym again));
       readable = rw (list_all-append is_readable labels (label ∷ []), reads.readable, is_read, named_readable name whole.named) refl;
       count = omega (arith, counted, reads.count, length-drop (entry_length rest) rest, entry_length-some rest some, entry_length-within rest);
     }
@@ -66,8 +64,7 @@ reads_more bytes rest labels label small reads some sound is_label =
     low_of high low text e =
         let prefix = symbol_file labels in
         let size = length-append prefix rest in
-        let read : get_or bytes (length prefix + 1) 0 ≡ low =
-        ap (λ (all : List ℕ). get_or all (length prefix + 1) 0) reads.parts ∙ get_or-append-add prefix rest 1 0 ∙ ap (λ (all : List ℕ). get_or all 1 0) e in
+        let read : get_or bytes (length prefix + 1) 0 ≡ low = rw (reads.parts, get_or-append-add prefix rest 1 0, e) refl in
         let inside : length prefix + 1 < length bytes = omega (arith, size, ap length reads.parts, ap length e) in
         let below = small (length prefix + 1) inside in
         omega (arith, read)
@@ -77,8 +74,7 @@ pub reads_stop : (bytes rest : List ℕ) (labels : List Label) (kind : SymbolKin
     → entry_fault (take (entry_length rest) rest) ≡ Some kind
     → (first_refusal 0 (entries bytes) ≡ Some (record { entry = length labels; kind = kind })) × StopsAtEntry bytes (length labels) kind
 reads_stop bytes rest labels kind reads some fault = (
-  reads.refusal ∙ ap (first_refusal (length labels)) (cut_entry rest some)
-      ∙ ap (λ (found : Option SymbolKind). refused_at (length labels) found (first_refusal (length labels + 1) (entries (drop (entry_length rest) rest)))) fault,
+  rw (reads.refusal, cut_entry rest some, fault) refl,
   record {
     prefix = labels;
     rest = rest;
@@ -92,27 +88,19 @@ reads_stop bytes rest labels kind reads some fault = (
 
 -- no entry is too long
 not_long : (rest : List ℕ) → entry_fault rest ≡ Some Long → ⊥
-not_long [] e = cc
-not_long (a ∷ []) e = cc
-not_long (a ∷ b ∷ text) e = grind (arith, named_not_long (name_before_zero text))
-  where
-    named_not_long : (name : List ℕ) → bad_name name ≡ Some Long → ⊥
-    named_not_long [] e = cc
-    named_not_long (first ∷ rest) e = grind arith
+not_long rest e = grind (arith, common_steps)
 
-pub stops_refused : (bytes : List ℕ) (entry : ℕ) (kind : SymbolKind) → length bytes ≤ SYMBOLS_LIMIT → StopsAtEntry bytes entry kind → IsRefusedAtEntry bytes entry kind
-stops_refused bytes entry Torn short stops = (short, stops)
-stops_refused bytes entry NoName short stops = (short, stops)
-stops_refused bytes entry BadByte short stops = (short, stops)
-stops_refused bytes entry Long short stops = absurd (not_long stops.rest stops.fault)
+pub stops_refused : (bytes : List ℕ) (entry : ℕ) (kind : SymbolKind) → length bytes ≤ SYMBOLS_LIMIT → StopsAtEntry bytes entry kind
+    → IsRefusedAtEntry bytes entry kind
+stops_refused bytes entry kind short stops = grind (arith, common_steps)
 
 -- what is found in a file within the limit
 pub found_refusal : (bytes : List ℕ) (refusal : Refusal) → length bytes ≤ SYMBOLS_LIMIT → first_refusal 0 (entries bytes) ≡ Some refusal
     → symbols_in bytes ≡ Err refusal
 unfolding symbols_in
-found_refusal bytes refusal short e = let low = le-ltb SYMBOLS_LIMIT (length bytes) short in rw (low, e) refl
+found_refusal bytes refusal short e = rw (le-ltb SYMBOLS_LIMIT (length bytes) short, e) refl
 
 pub found_labels : (bytes : List ℕ) (labels : List Label) → length bytes ≤ SYMBOLS_LIMIT → first_refusal 0 (entries bytes) ≡ None
     → map label_of_entry (entries bytes) ≡ labels → symbols_in bytes ≡ Ok labels
 unfolding symbols_in
-found_labels bytes labels short e all = let low = le-ltb SYMBOLS_LIMIT (length bytes) short in rw (low, e, all) refl
+found_labels bytes labels short e all = rw (le-ltb SYMBOLS_LIMIT (length bytes) short, e, all) refl

@@ -1,6 +1,7 @@
 pub mod Cut
 pub mod FirstLemmas
 pub mod FormLemmas
+pub mod BraceLemmas
 pub mod Modes
 pub mod Numbers
 pub mod Operations

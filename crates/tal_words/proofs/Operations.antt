@@ -1,5 +1,6 @@
 -- The names of the operations, one at a time, and that each name is read as its byte.
-use Rattle.std.proofs.Common.{◌≡◌, ℕ, suc, zero, ◌+◌, ◌<◌, ◌≤◌, Bool, true, false, ◌&&◌, ◌==◌, cond, List, [], get_or, drop, Option, Some, None, refl, ap, ap₂, ◌∙◌, min, take, length, inl, inr, arith}
+use Rattle.std.proofs.Common.{◌≡◌, ℕ, suc, zero, ◌+◌, ◌<◌, ◌≤◌, Bool, true, false, ◌&&◌, ◌==◌, cond, List, [], get_or, drop, Option, Some, None, refl}
+use Rattle.std.proofs.Common.{ap, ap₂, ◌∙◌, min, take, length, inl, inr, arith}
 use Rattle.std.specs.Str.{bytes_eq}
 use Rattle.std.specs.List.{position_from}
 use Rattle.std.proofs.lemmas.List.{at_drop_more, at_drop_all, take_min, drop_min}
@@ -18,28 +19,28 @@ abbrev reads : Option ℕ → ℕ → Bool
 reads None byte = false
 reads (Some found) byte = found == byte
 
-abbrev all_read_below : ℕ → Bool
-all_read_below zero = true
-all_read_below (suc byte) = reads (byte_of_op (name_of_op byte)) byte && all_read_below byte
-
 reads-some : (answer : Option ℕ) (byte : ℕ) → reads answer byte ≡ true → answer ≡ Some byte
 reads-some None byte h = cc
 reads-some (Some found) byte h = ap Some (eqb-true found byte h)
 
-all_read_below-at : (bound byte : ℕ) → all_read_below bound ≡ true → byte < bound → reads (byte_of_op (name_of_op byte)) byte ≡ true
-all_read_below-at zero byte h below = absurd (omega arith)
-all_read_below-at (suc bound) byte h below =
-    let parts = and_parts (reads (byte_of_op (name_of_op bound)) bound) (all_read_below bound) h in
-    elim (cases_lt byte bound) [
-      | inl less ↦ all_read_below-at bound byte parts.1 less
-      | inr not_less ↦
-          let e : byte ≡ bound = omega arith in
-          rw e parts.0
+-- a test that holds of each number below a bound
+abbrev pub passes_below : (ℕ → Bool) → ℕ → Bool
+passes_below test zero = true
+passes_below test (suc bound) = test bound && passes_below test bound
+
+pub passes_below-at : (test : ℕ → Bool) (bound n : ℕ) → passes_below test bound ≡ true → n < bound → test n ≡ true
+passes_below-at test zero n h below = absurd (omega arith)
+passes_below-at test (suc bound) n h below =
+    let parts = and_parts (test bound) (passes_below test bound) h in
+    elim (cases_lt n bound) [
+      | inl less ↦ passes_below-at test bound n parts.1 less
+      | inr not_less ↦ (let e : n ≡ bound = omega arith in rw e parts.0)
     ]
 
 pub name_read : (byte : ℕ) → byte < 256 → byte_of_op (name_of_op byte) ≡ Some byte
 unfolding byte_of_op name_of_op mode_of
-name_read byte below = reads-some (byte_of_op (name_of_op byte)) byte (all_read_below-at 256 byte refl below)
+name_read byte below =
+    reads-some (byte_of_op (name_of_op byte)) byte (passes_below-at (λ byte. reads (byte_of_op (name_of_op byte)) byte) 256 byte refl below)
 
 pub position-end : (name : List ℕ) (code : ℕ) → 32 ≤ code → position_from (bytes_eq name) code (drop code operation_names) ≡ None
 position-end name code past = at_drop_all (position_from (bytes_eq name) code) operation_names code past

@@ -1,5 +1,6 @@
 -- A pass over items: what it has given so far, and where its first fault is, one item at a time.
-use Rattle.std.proofs.Common.{◌≡◌, ℕ, zero, suc, ◌+◌, ◌<◌, ◌≤◌, List, [], ◌∷◌, ◌++◌, length, take, drop, get_or, Option, Some, None, refl, sym, ◌∙◌, ap, arith, append_assoc, append-nil}
+use Rattle.std.proofs.Common.{◌≡◌, ℕ, zero, suc, ◌+◌, ◌<◌, ◌≤◌, List, [], ◌∷◌, ◌++◌, length, take, drop, get_or, Option, Some, None, refl, arith}
+use Rattle.std.proofs.Common.{append_assoc, append-nil}
 use Rattle.tal_words.specs.declared.span.Word.{Word}
 use Rattle.tal_words.specs.declared.fault.Fault.{Fault}
 use Rattle.tal_words.specs.declared.fault.FaultKind.{FaultKind}
@@ -13,28 +14,23 @@ module _ {X Y : Type 0} (give : List X → X → List X → List Y) (items : Lis
       → give (take k items) (get_or items k d) (drop (k + 1) items) ≡ piece → more ≡ given ++ piece
       → more ++ collected give (take (k + 1) items) (drop (k + 1) items) ≡ whole
   given-more d piece more within so_far here added =
-      let rest = collected give (take (k + 1) items) (drop (k + 1) items) in
-      ap (λ ys. ys ++ rest) added ∙ append_assoc given piece rest ∙ ap (λ ys. given ++ (ys ++ rest)) (sym here)
-      ∙ ap (λ ys. given ++ ys) (sym (collected-step give items k d within)) ∙ so_far
+      rw (added, append_assoc, ← here, ← collected-step give items k d within) so_far
 
   -- all items
   pub given-all : length items ≤ k → given ++ collected give (take k items) (drop k items) ≡ whole → given ≡ whole
-  given-all past so_far = sym (append-nil given) ∙ ap (λ ys. given ++ ys) (sym (collected-end give items k past)) ∙ so_far
+  given-all past so_far = rw (collected-end give items k past, append-nil) at so_far
 
 module _ {X : Type 0} (validate : List X → X → List X → Validated) (items : List X) (k : ℕ) (d : X) (within : k < length items) where
   -- the first fault from an item on is at this item, where it has one
   pub fault-here : (kind : FaultKind) → least (validate (take k items) (get_or items k d) (drop (k + 1) items)).kinds ≡ Some kind
-      → phase_fault (each validate (take k items) (drop k items)) ≡ Some (fault_at (validate (take k items) (get_or items k d) (drop (k + 1) items)).origin kind)
-  fault-here kind e =
-      ap phase_fault (each-step validate items k d within)
-      ∙ ap (λ o. fault_or (validate (take k items) (get_or items k d) (drop (k + 1) items)).origin o (phase_fault (each validate (take (k + 1) items) (drop (k + 1) items)))) e
+      → phase_fault (each validate (take k items) (drop k items))
+      ≡ Some (fault_at (validate (take k items) (get_or items k d) (drop (k + 1) items)).origin kind)
+  fault-here kind e = rw (each-step validate items k d within, e) refl
 
   -- and further on where this item has none
   pub fault-later : least (validate (take k items) (get_or items k d) (drop (k + 1) items)).kinds ≡ None
       → phase_fault (each validate (take (k + 1) items) (drop (k + 1) items)) ≡ phase_fault (each validate (take k items) (drop k items))
-  fault-later e = sym (
-      ap phase_fault (each-step validate items k d within)
-      ∙ ap (λ o. fault_or (validate (take k items) (get_or items k d) (drop (k + 1) items)).origin o (phase_fault (each validate (take (k + 1) items) (drop (k + 1) items)))) e)
+  fault-later e = rw (each-step validate items k d within, e) refl
 
 -- no fault at a word and none further on
 pub fault_or-none : (word : Word) (o : Option FaultKind) (later : Option Fault) → fault_or word o later ≡ None → (o ≡ None) × (later ≡ None)
@@ -50,15 +46,8 @@ none-at (word ∷ words) (suc k) d e h = none-at words k d (fault_or-none word.o
 -- the first fault of words without a fault and of those behind them
 pub fault-behind : (xs ys : List Validated) → phase_fault xs ≡ None → phase_fault (xs ++ ys) ≡ phase_fault ys
 fault-behind [] ys e = refl
-fault-behind (x ∷ xs) ys e =
-    let parts = fault_or-none x.origin (least x.kinds) (phase_fault xs) e in
-    ap (λ o. fault_or x.origin o (phase_fault (xs ++ ys))) parts.0 ∙ fault-behind xs ys parts.1
+fault-behind (x ∷ xs) ys e = grind (arith, fault-behind xs ys)
 
 pub fault-prefix : (xs ys : List Validated) (fault : Fault) → phase_fault xs ≡ Some fault → phase_fault (xs ++ ys) ≡ Some fault
 fault-prefix [] ys fault e = cc
-fault-prefix (x ∷ xs) ys fault e = by (least x.kinds) (λ later. fault-prefix xs ys fault later) e
-  where
-    by : (o : Option FaultKind) → (phase_fault xs ≡ Some fault → phase_fault (xs ++ ys) ≡ Some fault)
-        → fault_or x.origin o (phase_fault xs) ≡ Some fault → fault_or x.origin o (phase_fault (xs ++ ys)) ≡ Some fault
-    by (Some kind) later e = e
-    by None later e = later e
+fault-prefix (x ∷ xs) ys fault e = grind (arith, fault-prefix xs ys fault)

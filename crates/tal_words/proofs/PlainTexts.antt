@@ -1,5 +1,5 @@
 -- The words of a text of words and of comments of one token.
-use Rattle.std.proofs.Common.{◌≡◌, ℕ, ◌≤◌, Bool, true, false, not, List, [], ◌∷◌, ◌++◌, length, map, None, refl, ap, sym, ◌∙◌, arith, subst}
+use Rattle.std.proofs.Common.{◌≡◌, ℕ, ◌≤◌, Bool, false, not, List, [], ◌∷◌, ◌++◌, length, map, None, refl, arith}
 use Rattle.std.specs.Prelude.{if◌then◌else◌, ◌||◌, ◌&&◌, ◌==◌, nat_lt}
 use Rattle.std.specs.List.{flat_map, AllByRecursion}
 use Rattle.std.proofs.lemmas.Bool.{le-ltb}
@@ -10,8 +10,8 @@ use Rattle.tal_words.specs.declared.span.Word.{Word}
 use Rattle.tal_words.specs.declared.fault.FaultKind.{FaultKind}
 use Rattle.tal_words.specs.declared.fault.FaultKind.TheVariants.{OpenComment, LongWord, StrayParen}
 use Rattle.tal_words.specs.Source.{begins, word_text, tokens_of}
-use Rattle.tal_words.specs.Faults.{when, least, phase_fault, fault_or}
-use Rattle.tal_words.specs.Comments.{depth_after, comment_depth, is_word, opens_comment, closed_comment, validated_token, word_given, words_of, word_fault}
+use Rattle.tal_words.specs.Faults.{when, phase_fault}
+use Rattle.tal_words.specs.Comments.{depth_after, comment_depth, closed_comment, validated_token, word_given, words_of, word_fault}
 use Rattle.tal_words.specs.Order.{each, collected}
 use Rattle.tal_words.specs.PlainTexts.{Chunk, Item, Comment, PlainWord, chunks_of_item, text_of_items, words_of_item, IsPlainWord, AreItems}
 use Rattle.tal_words.proofs.PlainTokens.{AreChunks, texts_of_tokens}
@@ -49,47 +49,29 @@ module _ (source : List ℕ) where
       → comment_depth source (before ++ token ∷ []) ≡ depth_after depth (word_text source token)
   unfolding comment_depth
   depth_more before token depth e =
-      fold_push (λ (open_before : ℕ) (each_token : Word). depth_after open_before (word_text source each_token)) 0 before token
-      ∙ ap (λ (n : ℕ). depth_after n (word_text source token)) e
+      rw (fold_push (λ (depth : ℕ) (token : Word). depth_after depth (word_text source token)) 0 before token, e) refl
 
   words_same : (tokens before : List Word) (depth : ℕ) → comment_depth source before ≡ depth
       → map (word_text source) (collected (word_given source) before tokens) ≡ words_outside depth (map (word_text source) tokens)
   words_same [] before depth e = refl
   words_same (token ∷ tokens) before depth e =
-      let rest = collected (word_given source) (before ++ token ∷ []) tokens in
-      map-append (word_text source) (word_given source before token tokens) rest
-      ∙ ap (λ (texts : List (List ℕ)). map (word_text source) (word_given source before token tokens) ++ texts)
-      (words_same tokens (before ++ token ∷ []) (depth_after depth (word_text source token)) (depth_more before token depth e))
-      ∙ ap (λ (texts : List (List ℕ)). texts ++ words_outside (depth_after depth (word_text source token)) (map (word_text source) tokens))
-      (either (is_word source before token) ∙ ap (λ (n : ℕ). if speaks n (word_text source token) then word_text source token ∷ [] else []) e)
-    where
-      either : (b : Bool) → map (word_text source) (if b then token ∷ [] else []) ≡ (if b then word_text source token ∷ [] else [])
-      either true = refl
-      either false = refl
+      let rest = words_same tokens (before ++ token ∷ []) (depth_after depth (word_text source token)) (depth_more before token depth e) in
+      rw (map-append, rest, e) (grind arith)
 
   closed_same : (tokens before : List Word) (depth : ℕ) → comment_depth source before ≡ depth
       → closed_comment source before tokens ≡ closes_within depth (map (word_text source) tokens)
   closed_same [] before depth e = refl
   closed_same (token ∷ tokens) before depth e =
       let next = depth_more before token depth e in
-      ap (λ (n : ℕ). n == 0 || closed_comment source (before ++ token ∷ []) tokens) next
-      ∙ ap (λ (b : Bool). depth_after depth (word_text source token) == 0 || b) (closed_same tokens (before ++ token ∷ []) (depth_after depth (word_text source token)) next)
+      rw (next, closed_same tokens (before ++ token ∷ []) (depth_after depth (word_text source token)) next) refl
 
   sound_same : (tokens before : List Word) (depth : ℕ) → comment_depth source before ≡ depth → AreSound depth (map (word_text source) tokens)
       → phase_fault (each (validated_token source) before tokens) ≡ None
   sound_same [] before depth e sound = refl
   sound_same (token ∷ tokens) before depth e sound =
-      let text = word_text source token in
       let next = depth_more before token depth e in
-      let kinds : (validated_token source before token tokens).kinds ≡ [] =
-      ap (λ (b : Bool). when (opens_comment source before token && not b) OpenComment
-      ++ when (is_word source before token && nat_lt WORD_LIMIT (length text)) LongWord ++ when (is_word source before token && begins 41 text) StrayParen)
-      (closed_same tokens (before ++ token ∷ []) (depth_after depth text) next)
-      ∙ ap (λ (n : ℕ). when (opens_one n text && not (closes_within (depth_after depth text) (map (word_text source) tokens))) OpenComment
-      ++ when (speaks n text && nat_lt WORD_LIMIT (length text)) LongWord ++ when (speaks n text && begins 41 text) StrayParen) e
-      ∙ sound.0 in
-      ap (λ (found : List FaultKind). fault_or token (least found) (phase_fault (each (validated_token source) (before ++ token ∷ []) tokens))) kinds
-      ∙ sound_same tokens (before ++ token ∷ []) (depth_after depth text) next sound.1
+      rw (closed_same tokens (before ++ token ∷ []) (depth_after depth (word_text source token)) next, e, sound.0)
+      (sound_same tokens (before ++ token ∷ []) (depth_after depth (word_text source token)) next sound.1)
 
 abbrev texts_of : List Chunk → List (List ℕ)
 texts_of chunks = map (λ chunk. chunk.text) chunks
@@ -111,43 +93,31 @@ are_chunks (PlainWord text blank ∷ items) are =
 
 outside_items : (items : List Item) → AreItems items → words_outside 0 (texts_of (chunks_of items)) ≡ flat_map words_of_item items
 outside_items [] are = refl
-outside_items (Comment text blank ∷ items) are =
-    let opens = are.0.0.unopened in
-    let closes = are.0.0.unclosed in
-    rw (opens, closes) (outside_items items are.1)
-outside_items (PlainWord text blank ∷ items) are =
-    let opens = are.0.0.no_comment in
-    rw opens (ap (λ (texts : List (List ℕ)). text ∷ texts) (outside_items items are.1))
+outside_items (Comment text blank ∷ items) are = rw (are.0.0.unopened, are.0.0.unclosed) (outside_items items are.1)
+outside_items (PlainWord text blank ∷ items) are = rw (are.0.0.no_comment, outside_items items are.1) refl
 
 items_sound : (items : List Item) → AreItems items → AreSound 0 (texts_of (chunks_of items))
 items_sound [] are = tt
-items_sound (Comment text blank ∷ items) are =
-    let opens = are.0.0.unopened in
-    let closes = are.0.0.unclosed in
-    rw (opens, closes) (refl, (refl, (refl, items_sound items are.1)))
+items_sound (Comment text blank ∷ items) are = rw (are.0.0.unopened, are.0.0.unclosed) (refl, (refl, (refl, items_sound items are.1)))
 items_sound (PlainWord text blank ∷ items) are =
-    let opens = are.0.0.no_comment in
-    let closes = are.0.0.no_paren in
     let short = le-ltb WORD_LIMIT (length text) are.0.0.short in
-    rw (opens, closes, short) (refl, items_sound items are.1)
+    rw (are.0.0.no_comment, are.0.0.no_paren, short) (refl, items_sound items are.1)
 
 -- the words of the text are those of the items
-pub words_are : (items : List Item) → AreItems items → map (word_text (text_of_items items)) (words_of (text_of_items items)) ≡ flat_map words_of_item items
+pub words_are : (items : List Item) → AreItems items
+    → map (word_text (text_of_items items)) (words_of (text_of_items items)) ≡ flat_map words_of_item items
 unfolding words_of comment_depth
 words_are items are =
     let source = text_of_items items in
-    words_same source (tokens_of source) [] 0 refl ∙ ap (words_outside 0) (texts_of_tokens (chunks_of items) (are_chunks items are)) ∙ outside_items items are
+    rw (words_same source (tokens_of source) [] 0 refl, texts_of_tokens (chunks_of items) (are_chunks items are)) (outside_items items are)
 
 -- and none of its tokens has a fault
 pub no_word_fault : (items : List Item) → AreItems items → length (text_of_items items) ≤ TEXT_LIMIT → word_fault (text_of_items items) ≡ None
 unfolding word_fault comment_depth
 no_word_fault items are short =
     let source = text_of_items items in
-    let low = le-ltb TEXT_LIMIT (length source) short in
-    let P : List (List ℕ) → Type 0 = λ texts. AreSound 0 texts in
-    let sound : AreSound 0 (map (word_text source) (tokens_of source)) =
-    subst P (sym (texts_of_tokens (chunks_of items) (are_chunks items are))) (items_sound items are) in
-    rw low (sound_same source (tokens_of source) [] 0 refl sound)
+    let sound = rw (← texts_of_tokens (chunks_of items) (are_chunks items are)) at (items_sound items are) in
+    rw (le-ltb TEXT_LIMIT (length source) short) (sound_same source (tokens_of source) [] 0 refl sound)
 
 -- each of the words is plain
 pub words_plain : (items : List Item) → AreItems items → AllByRecursion IsPlainWord (flat_map words_of_item items)

@@ -1,12 +1,13 @@
 -- The tokens of a text of which each has one blank behind it.
-use Rattle.std.proofs.Common.{◌≡◌, ℕ, zero, suc, ◌+◌, ◌-◌, ◌<◌, Bool, true, false, not, List, [], ◌∷◌, ◌++◌, length, take, drop, get_or, map, refl, ap, sym, ◌∙◌, arith, add-one, append_assoc, append-nil, length-append}
-use Rattle.std.specs.Prelude.{if◌then◌else◌}
+use Rattle.std.proofs.Common.{◌≡◌, ℕ, zero, suc, ◌+◌, ◌-◌, ◌<◌, Bool, true, false, not, List, [], ◌∷◌, ◌++◌, length, drop, get_or, map, refl, ap, sym}
+use Rattle.std.proofs.Common.{◌∙◌, arith, append_assoc, append-nil, length-append}
 use Rattle.std.specs.List.{flat_map, list_any, prefix_len, AllByRecursion}
 use Rattle.std.proofs.lemmas.Bool.{or_parts}
 use Rattle.std.proofs.lemmas.List.{get_or-append-add, get_or_append_left, get_or_at, take_at, drop_at, map-append}
 use Rattle.tal_words.specs.declared.span.Word.{Word}
 use Rattle.tal_words.specs.PlainTexts.{Chunk, chunk_text}
-use Rattle.tal_words.specs.Source.{is_blank, word_text, run_length, is_after_blank, begins_token, token_at, tokens_below, tokens_of}
+use Rattle.tal_words.proofs.Tokens.{tokens_more}
+use Rattle.tal_words.specs.Source.{is_blank, word_text, run_length, is_after_blank, token_at, tokens_below, tokens_of}
 
 abbrev pub text_of_chunks : List Chunk → List ℕ
 text_of_chunks chunks = flat_map chunk_text chunks
@@ -45,17 +46,14 @@ after_blank-suc source zero some = absurd (omega arith)
 after_blank-suc source (suc before) some = let one : suc before - 1 ≡ before = omega arith in rw one refl
 
 module _ (source : List ℕ) where
-  tokens_more : (at : ℕ) → tokens_below source (at + 1) ≡ tokens_below source at ++ (if begins_token source at then token_at source at ∷ [] else [])
-  unfolding tokens_below
-  tokens_more at = rw (add-one at) refl
-
   -- no token begins behind a byte that is no blank
   none_begins : (at : ℕ) → 0 < at → is_blank (get_or source (at - 1) 0) ≡ false → tokens_below source (at + 1) ≡ tokens_below source at
   none_begins at some plain =
       let within : is_after_blank source at ≡ false = after_blank-suc source at some ∙ plain in
-      tokens_more at ∙ rw within (append-nil (tokens_below source at))
+      rw (tokens_more source at, within, append-nil) refl
 
-  none_within : (n p : ℕ) → ((j : ℕ) → j < n → is_blank (get_or source (p + j) 0) ≡ false) → tokens_below source (p + n + 1) ≡ tokens_below source (p + 1)
+  none_within : (n p : ℕ) → ((j : ℕ) → j < n → is_blank (get_or source (p + j) 0) ≡ false)
+      → tokens_below source (p + n + 1) ≡ tokens_below source (p + 1)
   none_within zero p plain = let same : p + 0 + 1 ≡ p + 1 = omega arith in ap (tokens_below source) same
   none_within (suc n) p plain =
       let before : p + suc n - 1 ≡ p + n = omega arith in
@@ -69,15 +67,14 @@ module _ (source : List ℕ) where
 
     read_word : (j : ℕ) → j < length chunk.text → get_or source (length prefix + j) 0 ≡ get_or chunk.text j 0
     read_word j within =
-        ap (λ (s : List ℕ). get_or s (length prefix + j) 0) split ∙ get_or-append-add prefix (chunk_text chunk ++ rest) j 0
-        ∙ get_or_append_left (chunk_text chunk) rest 0 j (omega (arith, length-append chunk.text (chunk.blank ∷ [])))
-        ∙ get_or_append_left chunk.text (chunk.blank ∷ []) 0 j within
+        let here = length-append chunk.text (chunk.blank ∷ []) in
+        rw (split, get_or-append-add prefix (chunk_text chunk ++ rest) j 0)
+        (get_or_append_left (chunk_text chunk) rest 0 j (omega (arith, here)) ∙ get_or_append_left chunk.text (chunk.blank ∷ []) 0 j within)
 
     read_blank : get_or source (length prefix + length chunk.text) 0 ≡ chunk.blank
     read_blank =
-        ap (λ (s : List ℕ). get_or s (length prefix + length chunk.text) 0) split ∙ get_or-append-add prefix (chunk_text chunk ++ rest) (length chunk.text) 0
-        ∙ ap (λ (s : List ℕ). get_or s (length chunk.text) 0) (append_assoc chunk.text (chunk.blank ∷ []) rest)
-        ∙ get_or_at chunk.text chunk.blank rest 0 (length chunk.text) refl
+        rw (split, get_or-append-add prefix (chunk_text chunk ++ rest) (length chunk.text) 0, append_assoc chunk.text (chunk.blank ∷ []) rest)
+        (get_or_at chunk.text chunk.blank rest 0 (length chunk.text) refl)
 
     plain_at : (j : ℕ) → j < length chunk.text → is_blank (get_or source (length prefix + j) 0) ≡ false
     plain_at j within = ap is_blank (read_word j within) ∙ any_none is_blank chunk.text j is.plain within
@@ -87,48 +84,47 @@ module _ (source : List ℕ) where
         → tokens_below source (length prefix + length chunk.text + 1) ≡ tokens_below source (length prefix) ++ token_at source (length prefix) ∷ []
     next_token after =
         let first : length prefix + 0 ≡ length prefix = omega arith in
-        let here : is_blank (get_or source (length prefix) 0) ≡ false = ap (λ (k : ℕ). is_blank (get_or source k 0)) (sym first) ∙ plain_at 0 is.some in
-        none_within (length chunk.text) (length prefix) plain_at ∙ tokens_more (length prefix) ∙ rw (after, here) refl
+        let here : is_blank (get_or source (length prefix) 0) ≡ false = ap (λ (k : ℕ). is_blank (get_or source k 0)) (sym first)
+        ∙ plain_at 0 is.some in
+        none_within (length chunk.text) (length prefix) plain_at ∙ tokens_more source (length prefix) ∙ rw (after, here) refl
 
     -- and a blank stands behind it
     behind_token : is_after_blank source (length prefix + length chunk.text + 1) ≡ true
     behind_token =
         let before : length prefix + length chunk.text + 1 - 1 ≡ length prefix + length chunk.text = omega arith in
-        after_blank-suc source (length prefix + length chunk.text + 1) (omega arith)
-        ∙ ap (λ (k : ℕ). is_blank (get_or source k 0)) before ∙ ap is_blank read_blank ∙ is.parted
+        rw (after_blank-suc source (length prefix + length chunk.text + 1) (omega arith), before, read_blank) is.parted
 
     -- its text is that of the chunk
     token_text : word_text source (token_at source (length prefix)) ≡ chunk.text
     unfolding token_at
     token_text =
-        let dropped : drop (length prefix) source ≡ chunk_text chunk ++ rest = ap (drop (length prefix)) split ∙ drop_at prefix (chunk_text chunk ++ rest) (length prefix) refl in
-        let run : run_length source (length prefix) ≡ length chunk.text = ap (prefix_len (λ byte. not (is_blank byte))) dropped ∙ run_of chunk.text chunk.blank rest is.plain is.parted in
+        let dropped : drop (length prefix) source ≡ chunk_text chunk ++ rest = ap (drop (length prefix)) split
+        ∙ drop_at prefix (chunk_text chunk ++ rest) (length prefix) refl in
+        let run : run_length source (length prefix) ≡ length chunk.text = ap (prefix_len (λ byte. not (is_blank byte))) dropped
+        ∙ run_of chunk.text chunk.blank rest is.plain is.parted in
         let size : length prefix + run_length source (length prefix) - length prefix ≡ length chunk.text = omega (arith, run) in
-        ap (λ (n : ℕ). take n (drop (length prefix) source)) size ∙ ap (take (length chunk.text)) dropped
-        ∙ ap (take (length chunk.text)) (append_assoc chunk.text (chunk.blank ∷ []) rest)
-        ∙ take_at chunk.text ((chunk.blank ∷ []) ++ rest) (length chunk.text) refl
+        rw (size, dropped, append_assoc chunk.text (chunk.blank ∷ []) rest) (take_at chunk.text ((chunk.blank ∷ []) ++ rest) (length chunk.text) refl)
 
   -- what is read of the tokens from a place on
   module _ {A : Type 0} (f : Word → A) (read : ℕ → Chunk → A)
       (reads : (prefix : List ℕ) (chunk : Chunk) (rest : List ℕ) → IsChunk chunk → source ≡ prefix ++ (chunk_text chunk ++ rest)
       → f (token_at source (length prefix)) ≡ read (length prefix) chunk) where
-    read_from : (chunks : List Chunk) (prefix : List ℕ) → AreChunks chunks → source ≡ prefix ++ text_of_chunks chunks → is_after_blank source (length prefix) ≡ true
+    read_from : (chunks : List Chunk) (prefix : List ℕ) → AreChunks chunks → source ≡ prefix ++ text_of_chunks chunks
+        → is_after_blank source (length prefix) ≡ true
         → map f (tokens_below source (length source)) ≡ map f (tokens_below source (length prefix)) ++ read_along read (length prefix) chunks
     read_from [] prefix are split after =
-        let same : length source ≡ length prefix = ap length (split ∙ append-nil prefix) in
-        ap (λ (n : ℕ). map f (tokens_below source n)) same ∙ sym (append-nil (map f (tokens_below source (length prefix))))
+        rw (ap length (split ∙ append-nil prefix), append-nil) refl
     read_from (chunk ∷ chunks) prefix are split after =
         let rest = text_of_chunks chunks in
         let next = length prefix + length chunk.text + 1 in
-        let size : length (prefix ++ chunk_text chunk) ≡ next = omega (arith, length-append prefix (chunk_text chunk), length-append chunk.text (chunk.blank ∷ [])) in
+        let size : length (prefix ++ chunk_text chunk) ≡ next = omega
+        (arith, length-append prefix (chunk_text chunk), length-append chunk.text (chunk.blank ∷ [])) in
         let again : source ≡ (prefix ++ chunk_text chunk) ++ rest = split ∙ sym (append_assoc prefix (chunk_text chunk) rest) in
-        let later : is_after_blank source (length (prefix ++ chunk_text chunk)) ≡ true = ap (is_after_blank source) size ∙ behind_token prefix chunk rest are.0 split in
-        read_from chunks (prefix ++ chunk_text chunk) are.1 again later
-        ∙ ap (λ (n : ℕ). map f (tokens_below source n) ++ read_along read n chunks) size
-        ∙ ap (λ (tokens : List Word). map f tokens ++ read_along read next chunks) (next_token prefix chunk rest are.0 split after)
-        ∙ ap (λ (all : List A). all ++ read_along read next chunks) (map-append f (tokens_below source (length prefix)) (token_at source (length prefix) ∷ []))
-        ∙ ap (λ (one : A). (map f (tokens_below source (length prefix)) ++ one ∷ []) ++ read_along read next chunks) (reads prefix chunk rest are.0 split)
-        ∙ append_assoc (map f (tokens_below source (length prefix))) (read (length prefix) chunk ∷ []) (read_along read next chunks)
+        let later : is_after_blank source (length (prefix ++ chunk_text chunk)) ≡ true = ap (is_after_blank source) size
+        ∙ behind_token prefix chunk rest are.0 split in
+        let one = map-append f (tokens_below source (length prefix)) (token_at source (length prefix) ∷ []) in
+        rw (read_from chunks (prefix ++ chunk_text chunk) are.1 again later, size, next_token prefix chunk rest are.0 split after)
+        (rw (one, reads prefix chunk rest are.0 split, append_assoc) refl)
 
 -- what is read of the tokens of chunks
 pub read_of_tokens : {A : Type 0} (chunks : List Chunk) (f : Word → A) (read : ℕ → Chunk → A)
@@ -140,7 +136,7 @@ read_of_tokens chunks f read reads are = read_from (text_of_chunks chunks) f rea
 
 texts_along : (chunks : List Chunk) (at : ℕ) → read_along (λ at chunk. chunk.text) at chunks ≡ map (λ chunk. chunk.text) chunks
 texts_along [] at = refl
-texts_along (chunk ∷ chunks) at = ap (λ (texts : List (List ℕ)). chunk.text ∷ texts) (texts_along chunks (at + length chunk.text + 1))
+texts_along (chunk ∷ chunks) at = rw (texts_along chunks (at + length chunk.text + 1)) refl
 
 -- the texts of the tokens of chunks
 pub texts_of_tokens : (chunks : List Chunk) → AreChunks chunks

@@ -1,13 +1,15 @@
 -- The tokens of a source, one byte at a time and one token at a time.
-use Rattle.std.proofs.Common.{◌≡◌, ℕ, zero, suc, ◌+◌, ◌-◌, ◌<◌, ◌≤◌, Bool, true, false, List, [], ◌∷◌, ◌++◌, length, take, get_or, refl, ap, sym, ◌∙◌, arith, add-one, append-nil, append_assoc, ◌⊎◌, inl, inr}
-use Rattle.std.specs.Prelude.{if◌then◌else◌, slice_index, not, ◌&&◌, ◌||◌}
-use Rattle.std.specs.List.{count_by}
+use Rattle.std.proofs.Common.{◌≡◌, ℕ, zero, suc, ◌+◌, ◌-◌, ◌<◌, ◌≤◌, true, false, List, [], ◌∷◌, ◌++◌, length, take, get_or, refl, ap, sym, ◌∙◌}
+use Rattle.std.proofs.Common.{arith, add-one, append-nil, append_assoc, inl, inr}
+use Rattle.std.proofs.Math.Bool.{and-false, or-true}
+use Rattle.std.specs.Prelude.{if◌then◌else◌, slice_index}
 use Rattle.std.proofs.lemmas.List.{length-append, length-take, get_or_past}
 use Rattle.std.proofs.lemmas.List.Sums.{count_by_more_yes, count_by_more_no, count_by-le-length}
 use Rattle.std.proofs.lemmas.Bool.{cases_lt}
 use Rattle.std.proofs.Math.Seq.{get_or-append_seam}
 use Rattle.tal_words.specs.declared.span.Word.{Word}
-use Rattle.tal_words.specs.Source.{is_blank, is_newline, line_at, column_at, is_after_blank, is_between, begins_token, token_at, run_length, tokens_below, tokens_of}
+use Rattle.tal_words.specs.Source.{is_blank, is_newline, line_at, column_at, is_after_blank, is_between, begins_token, token_at, run_length}
+use Rattle.tal_words.specs.Source.{tokens_below, tokens_of}
 use Rattle.tal_words.proofs.Runs.{run_length-blank, run_length-more, run_length-end}
 
 -- the line and the column are no greater than the offset and one
@@ -18,30 +20,20 @@ line_bound source at = omega (arith, count_by-le-length is_newline (take at sour
 pub column_bound : (source : List ℕ) (at : ℕ) → column_at source at ≤ at + 1
 unfolding column_at
 column_bound source zero = omega arith
-column_bound source (suc at) = by (is_newline (slice_index source at)) (column_bound source at)
-  where
-    by : (newline : Bool) → column_at source at ≤ at + 1 → (if newline then 1 else column_at source at + 1) ≤ suc at + 1
-    by true low = omega arith
-    by false low = omega arith
+column_bound source (suc at) = grind (arith, column_bound source at)
 
 -- one byte more
 pub line_more : (source : List ℕ) (at : ℕ) → at < length source
     → line_at source (at + 1) ≡ (if is_newline (get_or source at 0) then line_at source at + 1 else line_at source at)
 unfolding line_at
-line_more source at within = by (is_newline (get_or source at 0)) refl
-  where
-    by : (newline : Bool) → is_newline (get_or source at 0) ≡ newline
-        → 1 + count_by is_newline (take (at + 1) source)
-        ≡ (if newline then 1 + count_by is_newline (take at source) + 1 else 1 + count_by is_newline (take at source))
-    by true h = omega (arith, count_by_more_yes is_newline source at 0 within h)
-    by false h = omega (arith, count_by_more_no is_newline source at 0 within h)
+line_more source at within = grind (arith, count_by_more_yes is_newline source at 0, count_by_more_no is_newline source at 0)
 
 pub column_more : (source : List ℕ) (at : ℕ)
     → column_at source (at + 1) ≡ (if is_newline (slice_index source at) then 1 else column_at source at + 1)
 unfolding column_at
 column_more source at = rw (add-one at) refl
 
-tokens_more : (source : List ℕ) (at : ℕ)
+pub tokens_more : (source : List ℕ) (at : ℕ)
     → tokens_below source (at + 1) ≡ tokens_below source at ++ (if begins_token source at then token_at source at ∷ [] else [])
 unfolding tokens_below
 tokens_more source at = rw (add-one at) refl
@@ -60,18 +52,6 @@ pub record Between (source : List ℕ) (start at line column : ℕ) : Type 0 whe
   pub between : is_between source at ≡ true
   pub tokens : tokens_below source at ≡ tokens_below source start
 
-or_right : (a b : Bool) → b ≡ true → (a || b) ≡ true
-or_right true b is = refl
-or_right false b is = is
-
-or_left : (a b : Bool) → a ≡ true → (a || b) ≡ true
-or_left true b is = refl
-or_left false b is = cc
-
-and_right : (a b : Bool) → b ≡ false → (a && b) ≡ false
-and_right true b is = is
-and_right false b is = refl
-
 -- a blank behind it
 pub between_more : (source : List ℕ) (start at line column next_line next_column : ℕ) → at < length source
     → is_blank (get_or source at 0) ≡ true → Between source start at line column
@@ -79,47 +59,30 @@ pub between_more : (source : List ℕ) (start at line column next_line next_colu
     → next_column ≡ (if is_newline (get_or source at 0) then 1 else column + 1)
     → Between source start (at + 1) next_line next_column
 between_more source start at line column next_line next_column within blank here lines columns = record {
-  lines =
-      lines ∙ ap (λ number. if is_newline (get_or source at 0) then number + 1 else number) here.lines
-      ∙ sym (line_more source at within);
-  columns =
-      columns ∙ ap (λ number. if is_newline (get_or source at 0) then 1 else number + 1) here.columns
-      ∙ sym (column_more source at);
-  between = or_left _ _ (after_more source at ∙ blank);
-  tokens =
-      tokens_more source at
-      ∙ ap (λ begins. tokens_below source at ++ (if begins then token_at source at ∷ [] else [])) (and_right _ _ (ap not blank))
-      ∙ append-nil _ ∙ here.tokens;
+  lines = rw (lines, here.lines) (sym (line_more source at within));
+  columns = rw (columns, here.columns) (sym (column_more source at));
+  between = rw (after_more source at, blank) refl;
+  tokens = rw (tokens_more source at, blank, and-false, append-nil) here.tokens;
 }
 
 -- a token has a byte, which is no blank
 begins_plain : (source : List ℕ) (at : ℕ) → begins_token source at ≡ true → is_blank (get_or source at 0) ≡ false
-begins_plain source at begins = by (is_after_blank source at) (is_blank (get_or source at 0)) begins
-  where
-    by : (after blank : Bool) → (after && not blank) ≡ true → blank ≡ false
-    by after false begins = refl
-    by true true begins = cc
-    by false true begins = cc
+begins_plain source at begins = grind arith
 
 -- a run of no bytes ends at a blank, or at the end
 ends : (source : List ℕ) (from : ℕ) → run_length source from ≡ 0 → is_blank (get_or source from 0) ≡ true
-ends source from run = by (cases_lt from (length source)) (is_blank (get_or source from 0)) refl
-  where
-    by : (from < length source) ⊎ (length source ≤ from) → (blank : Bool) → is_blank (get_or source from 0) ≡ blank → blank ≡ true
-    by place true h = refl
-    by (inl within) false h = absurd (omega (arith, run, run_length-more source from within h))
-    by (inr past) false h = let end : is_blank (get_or source from 0) ≡ true = rw (get_or_past source from 0 past) refl in sym h ∙ end
+ends source from run = elim (cases_lt from (length source)) [
+  | inl within ↦ grind (arith, run_length-more source from within)
+  | inr past ↦ rw (get_or_past source from 0 past) refl
+]
 
 -- a run of some bytes begins within the source at no blank
 begins : (source : List ℕ) (from count : ℕ) → run_length source from ≡ count + 1
     → (from < length source) × (is_blank (get_or source from 0) ≡ false) × (run_length source (from + 1) ≡ count)
-begins source from count run = by (cases_lt from (length source)) (is_blank (get_or source from 0)) refl
-  where
-    by : (from < length source) ⊎ (length source ≤ from) → (blank : Bool) → is_blank (get_or source from 0) ≡ blank
-        → (from < length source) × (is_blank (get_or source from 0) ≡ false) × (run_length source (from + 1) ≡ count)
-    by (inr past) blank h = absurd (omega (arith, run, run_length-end source from past))
-    by (inl within) true h = absurd (omega (arith, run, run_length-blank source from within h))
-    by (inl within) false h = (within, h, omega (arith, run, run_length-more source from within h))
+begins source from count run =
+    let within : from < length source = grind (arith, run_length-end source from) in
+    let plain : is_blank (get_or source from 0) ≡ false = grind (arith, run_length-blank source from within) in
+    (within, plain, omega (arith, run_length-more source from within plain))
 
 -- what a scanner knows behind the rest of a token
 record Along (source : List ℕ) (from at : ℕ) : Type 0 where
@@ -134,11 +97,9 @@ along_one : (source : List ℕ) (from : ℕ) → from < length source → is_bla
     × (tokens_below source (from + 1) ≡ tokens_below source from)
 along_one source from within plain inside =
     let newline = plain_line (get_or source from 0) plain in (
-      line_more source from within ∙ ap (λ new. if new then line_at source from + 1 else line_at source from) newline,
-      column_more source from ∙ ap (λ new. if new then 1 else column_at source from + 1) newline,
-      tokens_more source from
-          ∙ ap (λ after. tokens_below source from ++ (if after && not (is_blank (get_or source from 0)) then token_at source from ∷ [] else [])) inside
-          ∙ append-nil _,
+      rw (line_more source from within, newline) refl,
+      rw (column_more source from, newline) refl,
+      rw (tokens_more source from, inside, append-nil) refl,
     )
 
 along : (count : ℕ) (source : List ℕ) (from at : ℕ) → from + count ≡ at → run_length source from ≡ count → is_after_blank source from ≡ false
@@ -177,39 +138,27 @@ past_token source from within starts =
     let rest =
     along (run_length source (from + 1)) source (from + 1) (from + run_length source from) (omega (arith, more)) refl
     (after_more source from ∙ plain) in
-    let line : line_at source (from + 1) ≡ line_at source from =
-    line_more source from within ∙ ap (λ new. if new then line_at source from + 1 else line_at source from) newline in
-    let column : column_at source (from + 1) ≡ column_at source from + 1 =
-    column_more source from ∙ ap (λ new. if new then 1 else column_at source from + 1) newline in
-    let token : tokens_below source (from + 1) ≡ tokens_below source from ++ (token_at source from ∷ []) =
-    tokens_more source from ∙ ap (λ new. tokens_below source from ++ (if new then token_at source from ∷ [] else [])) starts in
-    (rest.lines ∙ line, omega (arith, rest.columns, column, more), or_right _ _ rest.blank, rest.tokens ∙ token, omega (arith, more))
+    let line : line_at source (from + 1) ≡ line_at source from = rw (line_more source from within, newline) refl in
+    let column : column_at source (from + 1) ≡ column_at source from + 1 = rw (column_more source from, newline) refl in
+    let token : tokens_below source (from + 1) ≡ tokens_below source from ++ (token_at source from ∷ []) = rw (tokens_more source from, starts) refl
+    in
+    (rest.lines ∙ line, omega (arith, rest.columns, column, more), rw (rest.blank, or-true) refl, rest.tokens ∙ token, omega (arith, more))
 
 -- no more tokens than bytes
 pub tokens_bound : (source : List ℕ) (at : ℕ) → length (tokens_below source at) ≤ at
 unfolding tokens_below
 tokens_bound source zero = omega arith
-tokens_bound source (suc at) = by (begins_token source at) (tokens_bound source at)
-  where
-    by : (new : Bool) → length (tokens_below source at) ≤ at
-        → length (tokens_below source at ++ (if new then token_at source at ∷ [] else [])) ≤ suc at
-    by true low = omega (arith, low, length-append (tokens_below source at) (token_at source at ∷ []))
-    by false low = omega (arith, low, length-append (tokens_below source at) [])
+tokens_bound source (suc at) =
+    grind (arith, tokens_bound source at, length-append (tokens_below source at) (token_at source at ∷ []), append-nil)
 
 -- the tokens below an offset come first among all
 prefix : (source : List ℕ) (at count : ℕ) → (more : List Word) × (tokens_below source (at + count) ≡ tokens_below source at ++ more)
-prefix source at zero = ([], rw at_zero (sym (append-nil _)))
-  where
-    at_zero : at + 0 ≡ at
-    at_zero = omega arith
+prefix source at zero = ([], (let same : at + 0 ≡ at = omega arith in rw (same, append-nil) refl))
 prefix source at (suc count) =
     let before = prefix source at count in
     let last = if begins_token source (at + count) then token_at source (at + count) ∷ [] else [] in
-    let step : at + suc count ≡ at + count + 1 = omega arith in (
-      before.0 ++ last,
-      ap (tokens_below source) step ∙ tokens_more source (at + count) ∙ ap (λ tokens. tokens ++ last) before.1
-          ∙ append_assoc (tokens_below source at) before.0 last,
-    )
+    let step : at + suc count ≡ at + count + 1 = omega arith in
+    (before.0 ++ last, rw (step, tokens_more source (at + count), before.1, append_assoc) refl)
 
 -- the token that begins at an offset has its place among all
 pub token_there : (source : List ℕ) (at : ℕ) (none : Word) → at < length source → begins_token source at ≡ true
@@ -219,11 +168,9 @@ unfolding tokens_of
 token_there source at none within starts =
     let later = prefix source (at + 1) (length source - (at + 1)) in
     let end : at + 1 + (length source - (at + 1)) ≡ length source = omega arith in
-    let token : tokens_below source (at + 1) ≡ tokens_below source at ++ (token_at source at ∷ []) =
-    tokens_more source at ∙ ap (λ new. tokens_below source at ++ (if new then token_at source at ∷ [] else [])) starts in
+    let token : tokens_below source (at + 1) ≡ tokens_below source at ++ (token_at source at ∷ []) = rw (tokens_more source at, starts) refl in
     let all : tokens_below source (length source) ≡ tokens_below source at ++ (token_at source at ∷ later.0) =
-    sym (ap (tokens_below source) end) ∙ later.1 ∙ ap (λ tokens. tokens ++ later.0) token
-    ∙ append_assoc (tokens_below source at) (token_at source at ∷ []) later.0 in
+    sym (ap (tokens_below source) end) ∙ rw (later.1, token, append_assoc) refl in
     rw all (
       omega (arith, length-append (tokens_below source at) (token_at source at ∷ later.0)),
       get_or-append_seam (tokens_below source at) (token_at source at) later.0 none,

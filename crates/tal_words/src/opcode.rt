@@ -4,7 +4,8 @@ ghost use Rattle.std.specs.Prelude.{◌≡◌, ◌%◌, ◌==◌, not, slice_ind
 ghost use Rattle.std.specs.List.{position_from};
 ghost use Rattle.std.specs.Str.{bytes_eq};
 ghost use Rattle.arrayvec.specs.ArrayVec.{array_vec_len};
-ghost use Rattle.tal_words.specs.Opcodes.{operation_names, has, is_mode, are_modes, moded_byte, byte_of_op, name_of_op, is_short, mode_letters, shown_mode};
+ghost use Rattle.tal_words.specs.Opcodes.{operation_names, has, is_mode, are_modes, moded_byte};
+ghost use Rattle.tal_words.specs.Opcodes.{byte_of_op, name_of_op, is_short, mode_letters, shown_mode};
 
 use arrayvec::ArrayVec;
 use uxn_opcodes::{Mode, Width};

@@ -24,7 +24,4 @@ loop-at-preserved c =
 
 pub returns : goal.returns
 unfolding closers_of
-returns c =
-    let first : c.loop-at.at ≡ 0 = omega arith in
-    c.reverse.ensures.items ∙ c.loop-at.invariant.closers
-    ∙ ap (λ n. each (closer_of c.args.source.now) (take n c.args.words.now) (drop n c.args.words.now)) first
+returns c = grind (arith, c.reverse.ensures.items, c.loop-at.invariant.closers)

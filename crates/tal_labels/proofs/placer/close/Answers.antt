@@ -19,5 +19,4 @@ returns-then-at-len c =
 
 pub returns-else-at-len : goal.returns-else-at-len
 returns-else-at-len c =
-    sym (closed_at-past c.in-Some.at c.args.address c.args.words.now.items (omega (arith, c.len.ensures)))
-    ∙ ap (λ o. closed_labels o c.args.address c.args.words.now.items) (sym c.in-Some.is)
+    grind (arith, closed_at-past c.in-Some.at c.args.address c.args.words.now.items (omega (arith, c.len.ensures)), c.in-Some.is)

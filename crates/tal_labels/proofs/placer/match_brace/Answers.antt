@@ -1,5 +1,5 @@
-use Rattle.tal_labels.proofs.Common.{◌≡◌, ℕ, ◌+◌, List, [], ◌∷◌, ◌++◌, length, Option, Some, None, true, refl, sym, ◌∙◌, ap, arith, MatchOption}
-use Rattle.tal_labels.proofs.Common.{option_to_list, opens, last_of, last_of-more, closed_opener}
+use Rattle.tal_labels.proofs.Common.{◌≡◌, ℕ, ◌+◌, List, [], ◌∷◌, ◌++◌, length, Option, Some, None, refl, sym, ◌∙◌, ap, arith, MatchOption}
+use Rattle.tal_labels.proofs.Common.{option_to_list, last_of, last_of-more}
 use Rattle.tal_labels.proofs.placer.match_brace.Goals as goal
 
 -- what is taken from the end is the last
@@ -10,6 +10,5 @@ popped (first ∷ before) after None m n e size h = absurd (omega (arith, h.0))
 
 pub returns-then-closes-clause-value : goal.returns-then-closes-clause-value
 returns-then-closes-clause-value c =
-    popped c.args.openers.now.items c.pop.new.self.items c.pop.result _ _ c.pop.ensures.items (omega arith) c.pop.ensures.cases
-    ∙ ap (λ b. closed_opener b true c.args.openers.now.items) c.if-opens.ensures
-    ∙ ap (λ b. closed_opener (opens c.args.text.now) b c.args.openers.now.items) c.if-closes.ensures
+    let last = popped c.args.openers.now.items c.pop.new.self.items c.pop.result _ _ c.pop.ensures.items (omega arith) c.pop.ensures.cases in
+    grind (arith, last, c.if-opens.ensures, c.if-closes.ensures)

@@ -4,7 +4,9 @@ use Rattle.std.proofs.lemmas.List.{take_more}
 use Rattle.tal_words.specs.declared.name.Label.{Label}
 use Rattle.tal_symbols.proofs.NearestLemmas.{passed_over, taken, kept}
 use Rattle.tal_symbols.proofs.lookups.nearest.Goals as goal
-use Rattle.tal_symbols.proofs.lookups.nearest.Goals.{then-label-address+then-lies_below, else-label-address, else-label-address-via-then-label-address+else-lies_below, else-label-address-via-else-label-address}
+use Rattle.tal_symbols.proofs.lookups.nearest.Goals.{then-label-address+then-lies_below, else-label-address}
+use Rattle.tal_symbols.proofs.lookups.nearest.Goals.{else-label-address-via-then-label-address+else-lies_below}
+use Rattle.tal_symbols.proofs.lookups.nearest.Goals.{else-label-address-via-else-label-address}
 
 pub loop-label-preserved : goal.loop-label-preserved
 loop-label-preserved c =

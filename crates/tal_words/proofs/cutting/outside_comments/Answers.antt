@@ -3,7 +3,8 @@ use Rattle.tal_words.specs.Source.{tokens_below}
 use Rattle.tal_words.proofs.Cut.{no_token, pass_start, step_within, step_opener, step_word, step_long, step_stray, step_open, step_end}
 use Rattle.tal_words.proofs.Tokens.{start_line, start_column, no_tokens, all_passed, tokens_bound, token_there, tokens_one_more}
 use Rattle.tal_words.proofs.cutting.outside_comments.Goals as goal
-use Rattle.tal_words.proofs.cutting.outside_comments.Goals.{then-depth-gt0, else-depth-gt0+then-begins, else-depth-gt0+else-begins+else-text-gt-WORD_LIMIT+else-begins-2+in_ok-push}
+use Rattle.tal_words.proofs.cutting.outside_comments.Goals.{then-depth-gt0, else-depth-gt0+then-begins}
+use Rattle.tal_words.proofs.cutting.outside_comments.Goals.{else-depth-gt0+else-begins+else-text-gt-WORD_LIMIT+else-begins-2+in_ok-push}
 
 pub past_blanks-place-requires-clause-line : goal.past_blanks-place-requires-clause-line
 past_blanks-place-requires-clause-line c = sym (start_line c.args.source.now)

@@ -2,7 +2,7 @@ use Rattle.tal_labels.proofs.Common.{◌≡◌, ℕ, ◌-◌, ◌≤◌, List, l
 use Rattle.tal_labels.proofs.Common.{bytes_at, Form, LambdaEnd, form, size, ltb, defined_name, is_mark_form, formed_marks, is_defined, kept_by}
 use Rattle.std.proofs.Common.{length-take}
 use Rattle.tal_labels.proofs.LayingLemmas.{well_placed}
-use Rattle.tal_labels.proofs.PlacedLemmas.{form-closes}
+use Rattle.tal_words.proofs.BraceLemmas.{form-closes}
 use Rattle.tal_labels.proofs.KeptLemmas.{IsNext, refused_shape, validated_next, next_kept}
 use Rattle.tal_labels.proofs.placer.Placer.place_next.Goals as goal
 

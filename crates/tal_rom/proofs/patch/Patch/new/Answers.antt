@@ -3,7 +3,7 @@ use Rattle.tal_rom.proofs.patch.Patch.new.Goals as goal
 
 pub returns : goal.returns
 unfolding byte_at
-returns c = record {
+returns c source = record {
   ascending = tt;
   size = c.in_ok-zeros.ensures.size;
   each = λ at within. c.in_ok-zeros.ensures.each at;
