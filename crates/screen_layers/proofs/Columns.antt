@@ -1,7 +1,8 @@
 -- What the columns of a row of a tile paint: the first of them, and all eight at once.
 use Rattle.std.proofs.Common.{◌≡◌, ℕ, ◌+◌, ◌-◌, ◌<◌, ◌≤◌, inl, inr, Bool, List, length, take, drop, slice_index, nat_lt, if◌then◌else◌, Option, None, unwrap_or, sym, ap, ◌∙◌, arith}
 use Rattle.std.proofs.lemmas.List.{get_or-take, get_or-drop}
-use Rattle.std.proofs.lemmas.Bool.{cases_lt, cond-true, cond-false, lt-ltb, le-ltb}
+use Rattle.std.proofs.lemmas.Bool.{cases_lt}
+use Rattle.std.proofs.lemmas.Bool.Decides.{nat_tests}
 use borrow.Rule.Slice.PartMut.{put_mid}
 use Rattle.screen_layers.specs.Blending.{ink}
 use Rattle.screen_layers.specs.Drawings.{pixel_distance, pixel_value, row_painted}
@@ -19,13 +20,10 @@ ColumnsPainted before after corner low high flip_x blend count =
 
 row-hit : (corner low high : ℕ) (flip_x : Bool) (blend at column : ℕ) → pixel_distance corner at ≡ column → column < 8
     → row_painted corner low high flip_x blend at ≡ ink blend (pixel_value low high flip_x column)
-row-hit corner low high flip_x blend at column e h =
-    cond-true (nat_lt (pixel_distance corner at) 8) (ink blend (pixel_value low high flip_x (pixel_distance corner at))) None (lt-ltb (pixel_distance corner at) 8 (omega arith))
-    ∙ ap (λ d. ink blend (pixel_value low high flip_x d)) e
+row-hit corner low high flip_x blend at column e h = grind (arith, nat_tests)
 
 row-miss : (corner low high : ℕ) (flip_x : Bool) (blend at : ℕ) → 8 ≤ pixel_distance corner at → row_painted corner low high flip_x blend at ≡ None
-row-miss corner low high flip_x blend at h =
-    cond-false (nat_lt (pixel_distance corner at) 8) (ink blend (pixel_value low high flip_x (pixel_distance corner at))) None (le-ltb (pixel_distance corner at) 8 h)
+row-miss corner low high flip_x blend at h = grind (arith, nat_tests)
 
 -- eight pixels that lie on the row, written as one span
 pub whole-row : (row span : List ℕ) (corner low high : ℕ) (flip_x : Bool) (blend a k : ℕ) → length row ≤ 2047 → corner + 8 ≤ length row → a ≡ corner → k ≡ 8

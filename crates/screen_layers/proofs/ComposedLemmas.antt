@@ -1,5 +1,5 @@
 -- What is shown of a row.
-use Rattle.std.proofs.Common.{◌≡◌, ℕ, ◌*◌, ◌<◌, List, length, take, drop, slice_index, ap, ◌∙◌}
+use Rattle.std.proofs.Common.{◌≡◌, ℕ, ◌*◌, ◌<◌, List, length, take, drop, slice_index, refl, ◌∙◌}
 use Rattle.std.proofs.lemmas.List.{get_or-take, get_or-drop}
 use Rattle.std.proofs.lemmas.List.FromFn.{fill_by_all}
 use Rattle.screen_frame.specs.Colours.{shown}
@@ -18,6 +18,4 @@ row-values screen picture values y stands in_y size composed =
     fill_by_all (λ x. shown (pixel_of picture.drawings Foreground x y) (pixel_of picture.drawings Background x y)) values picture.width 0 (size ∙ stands.width)
     (λ x h.
     let in_x : x < screen.width = rw stands.width h in
-    composed x in_x
-    ∙ ap (λ p. shown p (pixel_at screen.width screen.background x y)) (stands.pixels Foreground x y in_x in_y)
-    ∙ ap (λ p. shown (pixel_of picture.drawings Foreground x y) p) (stands.pixels Background x y in_x in_y))
+    composed x in_x ∙ rw (stands.pixels Foreground x y in_x in_y, stands.pixels Background x y in_x in_y) refl)

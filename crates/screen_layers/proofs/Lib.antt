@@ -9,8 +9,5 @@ pub mod Columns
 pub mod TileLemmas
 mod MarkLemmas
 pub mod ScreenLemmas
-mod SpriteLemmas
 pub mod RefreshLemmas
 mod ComposedLemmas
-mod InkLemmas
-pub mod RowLemmas

@@ -25,9 +25,8 @@ ink blend value =
 
 -- what is kept of a blend: the colours of its four values, and whether value 0 draws nothing
 pub record AreInks (blend : ℕ) (colours : List ℕ) (transparent : Bool) : Type 0 where
-  pub count : length colours ≡ 4
-  pub same : (value : ℕ) → value < 4 → slice_index colours value ≡ slice_index (slice_index_or blends value []) blend
-  pub bound : (value : ℕ) → value < 4 → slice_index colours value < 4
+  pub low : blend < 16
+  pub same : colours ≡ map (λ row. slice_index row blend) blends
   pub clear : transparent ≡ is_transparent blend
 
 -- what is kept of the columns of a tile: the bit of a byte that each shows, the highest first unless they are flipped

@@ -1,12 +1,15 @@
 -- What is drawn, and the colour that it paints at a place (Varvara device reference: screen; that a fill takes x and y
 -- as unsigned shorts is the profile).
-use Rattle.std.specs.Prelude.{ℕ, zero, suc, ◌+◌, ◌-◌, ◌*◌, ◌/◌, ◌%◌, ◌^◌, ◌==◌, nat_lt, nat_le}
-use Rattle.std.specs.Prelude.{Bool, true, false, ◌&&◌, ◌||◌}
+use Rattle.std.specs.Prelude.{ℕ, zero, suc, ◌+◌, ◌-◌, ◌*◌, ◌/◌, ◌%◌, ◌^◌, ◌==◌, nat_lt, nat_le, min}
+use Rattle.std.specs.Prelude.{Bool, true, false, ◌&&◌}
 use Rattle.std.specs.Prelude.{if◌then◌else◌, List, [], ◌∷◌, ◌++◌, take, drop, slice_index, Option, Some, None}
+use Rattle.std.specs.List.{range_with_len, list_any}
 use Rattle.uxn_memory.specs.Bytes.{bank0}
 use Rattle.screen_layers.specs.declared.control.Layer.{Layer}
 use Rattle.screen_layers.specs.declared.control.Layer.TheVariants.{Background, Foreground}
 use Rattle.screen_layers.specs.declared.Moved.{Moved}
+use Rattle.screen_layers.specs.declared.plane.Tile.{Tile}
+use Rattle.screen_layers.specs.declared.tile.Look.{Look}
 use Rattle.screen_layers.specs.Control.{has_bit, flips_x, flips_y, layer_of, fills, has_two_bits, tile_size, auto_step}
 use Rattle.screen_layers.specs.Blending.{ink}
 
@@ -48,29 +51,28 @@ row_painted corner low high flip_x blend at =
 abbrev pub plane_byte : Bool → ℕ → ℕ
 plane_byte flip_y row = if flip_y then 7 - row else row
 
--- the colour that a shape paints at a place, if it covers it and is opaque there; a tile of one bit a pixel has no bytes
--- past the eighth, so its high bits are 0
-unfoldable pub painted : Shape → ℕ → ℕ → Option ℕ
-painted (fill left right top bottom colour) x y =
-    if (nat_le left x && nat_lt x right) && (nat_le top y && nat_lt y bottom) then Some colour else None
-painted (dot at_x at_y colour) x y =
-    if (x == at_x) && (y == at_y) then Some colour else None
-painted (tile at_x at_y bytes flip_x flip_y blend) x y =
-    let row = plane_byte flip_y (pixel_distance at_y y) in
-    if nat_lt (pixel_distance at_y y) 8
-    then row_painted at_x (slice_index bytes row) (slice_index bytes (8 + row)) flip_x blend x
-    else None
-
 -- whether a shape covers a place, opaque there or not
 unfoldable pub covers : Shape → ℕ → ℕ → Bool
 covers (fill left right top bottom colour) x y = (nat_le left x && nat_lt x right) && (nat_le top y && nat_lt y bottom)
 covers (dot at_x at_y colour) x y = (x == at_x) && (y == at_y)
 covers (tile at_x at_y bytes flip_x flip_y blend) x y = nat_lt (pixel_distance at_x x) 8 && nat_lt (pixel_distance at_y y) 8
 
--- whether one of these drawings covers a place of its layer
-abbrev pub is_covered : List Drawing → ℕ → ℕ → Bool
-is_covered [] x y = false
-is_covered (newest ∷ older) x y = covers newest.shape x y || is_covered older x y
+-- the colour of a shape at a place that it covers, if it is opaque there; a tile of one bit a pixel has no bytes past
+-- the eighth, so its high bits are 0
+abbrev pub colour_of : Shape → ℕ → ℕ → Option ℕ
+colour_of (fill left right top bottom colour) x y = Some colour
+colour_of (dot at_x at_y colour) x y = Some colour
+colour_of (tile at_x at_y bytes flip_x flip_y blend) x y =
+    let row = plane_byte flip_y (pixel_distance at_y y) in
+    ink blend (pixel_value (slice_index bytes row) (slice_index bytes (8 + row)) flip_x (pixel_distance at_x x))
+
+-- the colour that a shape paints at a place
+unfoldable pub painted : Shape → ℕ → ℕ → Option ℕ
+painted shape x y = if covers shape x y then colour_of shape x y else None
+
+-- whether a shape covers a place of a row, up to a width
+unfoldable pub covers_row : Shape → ℕ → ℕ → Bool
+covers_row shape width y = list_any (λ x. covers shape x y) (range_with_len 0 width)
 
 -- whether two layers are one
 abbrev pub same_layer : Layer → Layer → Bool
@@ -83,15 +85,16 @@ same_layer Foreground Foreground = true
 abbrev pub paint : Drawing → Layer → ℕ → ℕ → Option ℕ
 paint drawing layer x y = if same_layer drawing.layer layer then painted drawing.shape x y else None
 
--- a fill: from x up to the width or up to x, and from y up to the height or up to y
+-- the part of a side that a fill covers: from a place up to the side's end, or up to the place where it is flipped
+abbrev pub filled_span : ℕ → ℕ → Bool → ℕ × ℕ
+filled_span at size flip = if flip then (0, min at size) else (min at size, size)
+
+-- a fill, by its parts of the width and of the height
 abbrev pub filled : ℕ → ℕ → ℕ → ℕ → ℕ → Drawing
-filled width height x y control = record {
-  layer = layer_of control;
-  shape = fill
-      (if flips_x control then 0 else x) (if flips_x control then x else width)
-      (if flips_y control then 0 else y) (if flips_y control then y else height)
-      (control % 4);
-}
+filled width height x y control =
+    let across = filled_span x width (flips_x control) in
+    let down = filled_span y height (flips_y control) in
+    record { layer = layer_of control; shape = fill across.0 across.1 down.0 down.1 (control % 4) }
 
 -- one pixel
 abbrev pub dotted : ℕ → ℕ → ℕ → Drawing
@@ -112,20 +115,30 @@ moved_by_pixel x y auto control =
 unfoldable pub tile_bytes_at : List ℕ → ℕ → ℕ → List ℕ
 tile_bytes_at memory at count = take count (drop at (bank0 memory ++ bank0 memory))
 
--- how far the bytes of one tile lie from those of the next: a tile's size where auto has 04, else 0
-abbrev pub bytes_step : ℕ → ℕ → ℕ
-bytes_step auto control = if has_bit auto 4 then tile_size (has_two_bits control) else 0
+-- what a sprite's control byte says of each of its tiles
+abbrev pub look_of : ℕ → Look
+look_of control = record { columns = flips_x control; flip_y = flips_y control; two_bits = has_two_bits control; inks = control % 16 }
 
--- tile i of a write to sprite: auto 02 steps its x, auto 01 its y and auto 04 its address
-unfoldable pub tile_of : List ℕ → ℕ → ℕ → ℕ → ℕ → ℕ → ℕ → Drawing
-tile_of memory x y addr auto control i = record {
-  layer = layer_of control;
-  shape = tile
-      ((x + i * auto_step auto 2 (flips_x control)) % 65536)
-      ((y + i * auto_step auto 1 (flips_y control)) % 65536)
-      (tile_bytes_at memory ((addr + i * bytes_step auto control) % 65536) (tile_size (has_two_bits control)))
-      (flips_x control) (flips_y control) (control % 16);
+-- a tile at a place, with a look
+abbrev pub tile_at : List ℕ → Tile → Look → Shape
+tile_at memory place look = tile place.x place.y (tile_bytes_at memory place.at (tile_size look.two_bits)) look.columns look.flip_y look.inks
+
+-- how far the bytes of one tile lie from those of the next: a tile's size where auto has 04, else 0
+abbrev pub bytes_step : ℕ → Look → ℕ
+bytes_step auto look = if has_bit auto 4 then tile_size look.two_bits else 0
+
+-- where tile i of a write to sprite stands: auto 02 steps its x, auto 01 its y and auto 04 its address
+abbrev pub place_of : ℕ → ℕ → ℕ → ℕ → Look → ℕ → Tile
+place_of x y addr auto look i = record {
+  x = (x + i * auto_step auto 2 look.columns) % 65536;
+  y = (y + i * auto_step auto 1 look.flip_y) % 65536;
+  at = (addr + i * bytes_step auto look) % 65536;
 }
+
+-- tile i of a write to sprite
+unfoldable pub tile_of : List ℕ → ℕ → ℕ → ℕ → ℕ → ℕ → ℕ → Drawing
+tile_of memory x y addr auto control i =
+    record { layer = layer_of control; shape = tile_at memory (place_of x y addr auto (look_of control) i) (look_of control) }
 
 -- the first drawings of a row of them, the newest first
 unfoldable pub newest_first : (ℕ → Drawing) → ℕ → List Drawing
@@ -141,5 +154,5 @@ abbrev pub moved_by_sprite : ℕ → ℕ → ℕ → ℕ → ℕ → Moved
 moved_by_sprite x y addr auto control = record {
   x = (x + auto_step auto 1 (flips_x control)) % 65536;
   y = (y + auto_step auto 2 (flips_y control)) % 65536;
-  addr = (addr + (auto / 16 + 1) * bytes_step auto control) % 65536;
+  addr = (addr + (auto / 16 + 1) * bytes_step auto (look_of control)) % 65536;
 }

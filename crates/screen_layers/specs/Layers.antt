@@ -1,10 +1,10 @@
 -- What a screen keeps, the pictures that it represents, and the rows that are marked.
-use Rattle.std.specs.Prelude.{◌≡◌, ◌⊎◌, ℕ, ◌+◌, ◌*◌, ◌<◌, Bool, true, false, List, length}
-use Rattle.std.specs.Prelude.{slice_index, slice_index_or, unwrap_or}
+use Rattle.std.specs.Prelude.{◌≡◌, ℕ, ◌+◌, ◌*◌, ◌<◌, Bool, false, ◌||◌, ◌==◌, if◌then◌else◌, List, length}
+use Rattle.std.specs.Prelude.{slice_index, slice_index_or, Option, Some, None, unwrap_or}
 use Rattle.screen_frame.specs.Colours.{shown}
 use Rattle.screen_layers.specs.declared.control.Layer.{Layer}
 use Rattle.screen_layers.specs.declared.control.Layer.TheVariants.{Background, Foreground}
-use Rattle.screen_layers.specs.Drawings.{Shape, Drawing, painted, paint, covers}
+use Rattle.screen_layers.specs.Drawings.{Shape, Drawing, paint, covers_row}
 use Rattle.screen_layers.specs.Pictures.{Picture, pixel_of, refreshed, is_marked, marked_rows}
 
 -- the size, the pixels of both layers and the composed values, all in rows of the width, and a mark for each row
@@ -50,30 +50,26 @@ pub record LayersAreMaintained (screen : Layers) : Type 0 where
   pub composed : length screen.composed ≡ screen.height * screen.width
   pub rows : (y : ℕ) → y < screen.height → mark_at screen.marks y ≡ false → IsComposed screen y
 
--- a list in rows of a width, after a shape was painted over it, at each place up to the width and a height
-abbrev pub PaintedOver : List ℕ → List ℕ → ℕ → ℕ → Shape → Type 0
-PaintedOver before after width height shape = (x y : ℕ) → x < width → y < height
-    → pixel_at width after x y ≡ unwrap_or (painted shape x y) (pixel_at width before x y)
+-- a list in rows of a width after colours were painted over it, at each place up to the width and a height
+pub record PaintedOver (before after : List ℕ) (width height : ℕ) (paint : ℕ → ℕ → Option ℕ) : Type 0 where
+  pub count : length after ≡ length before
+  pub pixels : (x y : ℕ) → x < width → y < height → pixel_at width after x y ≡ unwrap_or (paint x y) (pixel_at width before x y)
 
--- some place of a row, up to a width, is covered by a shape
-pub record RowCovered (shape : Shape) (width y : ℕ) : Type 0 where
-  pub x : ℕ
-  pub within : x < width
-  pub covered : covers shape x y ≡ true
+-- the values of one row that are shown where two lists lie over each other
+abbrev pub row_shown : ℕ → List ℕ → List ℕ → ℕ → ℕ → ℕ → Option ℕ
+row_shown width foreground background row x y =
+    if y == row then Some (shown (pixel_at width foreground x row) (pixel_at width background x row)) else None
 
 -- marks once the rows that a shape covers, up to a width and a height, are marked too
-pub record MarksMore (before after : List Bool) (width height : ℕ) (shape : Shape) : Type 0 where
-  pub covered : (x y : ℕ) → x < width → y < height → covers shape x y ≡ true → mark_at after y ≡ true
-  pub kept : (y : ℕ) → mark_at before y ≡ true → mark_at after y ≡ true
-  pub only : (y : ℕ) → y < height → mark_at after y ≡ true → (mark_at before y ≡ true) ⊎ RowCovered shape width y
+abbrev pub MarksMore : List Bool → List Bool → ℕ → ℕ → Shape → Type 0
+MarksMore before after width height shape = (y : ℕ) → y < height → mark_at after y ≡ (covers_row shape width y || mark_at before y)
 
 -- a screen after one more drawing: the size and the composed values stay
 pub record Draws (before after : Layers) (drawing : Drawing) : Type 0 where
   pub width : after.width ≡ before.width
   pub height : after.height ≡ before.height
-  pub pixels : (layer : Layer) (x y : ℕ) → x < before.width → y < before.height
-      → pixel_at before.width (pixels_of after layer) x y
-      ≡ unwrap_or (paint drawing layer x y) (pixel_at before.width (pixels_of before layer) x y)
+  pub composed : after.composed ≡ before.composed
+  pub layers : (layer : Layer) → PaintedOver (pixels_of before layer) (pixels_of after layer) before.width before.height (paint drawing layer)
   pub marks : MarksMore before.marks after.marks before.width before.height drawing.shape
 
 -- the size and the pixels of both layers are the same

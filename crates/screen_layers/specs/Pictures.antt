@@ -6,7 +6,7 @@ use Rattle.screen_frame.specs.Colours.{shown}
 use Rattle.screen_frame.specs.Ppm.{row_bytes}
 use Rattle.screen_layers.specs.declared.control.Layer.{Layer}
 use Rattle.screen_layers.specs.declared.control.Layer.TheVariants.{Background, Foreground}
-use Rattle.screen_layers.specs.Drawings.{Drawing, paint, is_covered, drawn_by_pixel, drawn_by_sprite}
+use Rattle.screen_layers.specs.Drawings.{Drawing, paint, covers_row, drawn_by_pixel, drawn_by_sprite}
 
 -- the size, the drawings since the last resize that succeeded, and those since the last refresh or such a resize, whichever is later;
 -- both lists have the newest first, and what lies off the screen is never shown
@@ -54,13 +54,9 @@ resized picture width height =
 abbrev pub refreshed : Picture → Picture
 refreshed picture = record picture { unrefreshed = [] }
 
--- whether one of these drawings covers a place of a row, up to a width, opaque there or not
-unfoldable pub covers_row : List Drawing → ℕ → ℕ → Bool
-covers_row drawings width y = list_any (λ x. is_covered drawings x y) (range_with_len 0 width)
-
--- whether a row is marked: a drawing since the last refresh or resize covers a place of it on the screen
+-- whether a row is marked: a drawing since the last refresh or resize covers a place of it on the screen, opaque there or not
 abbrev pub is_marked : Picture → ℕ → Bool
-is_marked picture y = covers_row picture.unrefreshed picture.width y
+is_marked picture y = list_any (λ drawing. covers_row drawing.shape picture.width y) picture.unrefreshed
 
 -- how many rows of the screen are marked
 unfoldable pub marked_rows : Picture → ℕ

@@ -1,11 +1,14 @@
 //! The screen: two layers of pixels, drawn by the ports pixel and sprite.
 #![tactic(auto)]
 
-ghost use Rattle.std.specs.Prelude.{ℕ, ◌≡◌, ◌==◌, ◌+◌, ◌*◌, ◌/◌, ◌%◌, ◌<◌, ◌≤◌, true, false, nat_le, nat_lt, ◌&&◌, if◌then◌else◌, List, [], ◌∷◌, ◌++◌, IfOk, All, length, take, drop, slice_index};
-ghost use Rattle.screen_layers.specs.Control.{has_bit, auto_step, tile_size};
-ghost use Rattle.screen_layers.specs.Drawings.{Drawing, tile, filled, dotted, moved_by_pixel, moved_by_sprite, tile_bytes_at};
+ghost use Rattle.std.specs.Prelude.{ℕ, ◌≡◌, ◌==◌, ◌+◌, ◌*◌, ◌/◌, ◌%◌, ◌<◌, ◌≤◌, true, false, nat_le, nat_lt, ◌&&◌};
+ghost use Rattle.std.specs.Prelude.{if◌then◌else◌, List, [], ◌∷◌, ◌++◌, IfOk, All, length, take, drop, slice_index};
+ghost use Rattle.screen_layers.specs.Control.{layer_of};
+ghost use Rattle.screen_layers.specs.Drawings.{Drawing, filled_span, filled, dotted, moved_by_pixel, moved_by_sprite};
+ghost use Rattle.screen_layers.specs.Drawings.{tile_at, look_of, place_of, bytes_step};
 ghost use Rattle.screen_layers.specs.Layers.{mark_at};
-ghost use Rattle.screen_layers.specs.Pictures.{Picture, new_picture, after_pixel, after_sprite, can_resize, resized, is_marked, values_of, picture_row_of};
+ghost use Rattle.screen_layers.specs.Pictures.{Picture, new_picture, after_pixel, after_sprite};
+ghost use Rattle.screen_layers.specs.Pictures.{can_resize, resized, is_marked, values_of, picture_row_of};
 
 mod control;
 mod marks;
@@ -20,7 +23,7 @@ use screen_frame::{CHANNELS, Palette, ppm_row};
 use size::{Area, Size};
 use std::alloc::{AllocError, Global};
 use std::marker::Model;
-use tile::Look;
+use tile::tile_size;
 use uxn_memory::Memory;
 
 /// The least width and height of a screen.
@@ -81,10 +84,7 @@ impl Screen {
     pub fn new(alloc: Global) -> Result<Screen, AllocError>
         ensures picture { IfOk result (λ screen. RepresentsPicture screen new_picture) }
     {
-        let size = Size {
-            width: 512,
-            height: 320,
-        };
+        let size = first_size();
         let mut background = Plane::new(alloc)?;
         let mut foreground = Plane::new(alloc)?;
         let mut composed = Plane::new(alloc)?;
@@ -147,12 +147,11 @@ impl Screen {
             (after_sprite picture memory.now x y addr auto control) }
         ensures moved { result ≡ moved_by_sprite x y addr auto control }
     {
-        let look = Look::of(control);
         for i in 0..u16::from(auto / 16) + 1 {
-            let place = place_of(x, y, addr, auto, &look, i);
-            self.tile(memory, place, layer_of(control), &look);
+            let place = place_of(x, y, addr, auto, control, i);
+            self.tile(memory, place, control);
         }
-        place_after(x, y, addr, auto, &look)
+        place_after(x, y, addr, auto, control)
     }
 
     /// Asks for a size. True where each way lies in 8 to 2047 and one differs from the present size: the screen then
@@ -259,9 +258,9 @@ impl Screen {
         ensures picture { SamePixels self.old self.new }
         ensures marks { (other : ℕ) → mark_at self.new.marks other ≡ (if other == y then false else mark_at self.old.marks other) }
     {
+        self.marks.unset(y);
         self.composed
             .compose(self.size, y, &self.foreground, &self.background);
-        self.marks.unset(y);
     }
 
     // Fills from x and y on, or up to them where flipped.
@@ -298,57 +297,63 @@ impl Screen {
         }
     }
 
-    // Paints a tile on a layer, if a column of it lies on the screen.
-    fn tile(&mut self, memory: &Memory, place: Tile, layer: Layer, look: &Look)
-        ensures { Draws self.old self.new (record {
-          layer = layer;
-          shape = tile place.x place.y
-              (tile_bytes_at memory.now place.at (tile_size look.now.two_bits)) look.now.columns look.now.flip_y look.now.inks;
-        }) }
+    // Paints a tile, if a column of it lies on the screen.
+    fn tile(&mut self, memory: &Memory, place: Tile, control: u8)
+        ensures { Draws self.old self.new (record { layer = layer_of control; shape = tile_at memory.now place (look_of control) }) }
     {
         let size = self.size;
         if place.x >= size.width && place.x <= u16::MAX - 7 {
             return;
         }
         self.marks.set_tile(size, place);
-        match layer {
-            Layer::Background => self.background.tile(size, memory, place, look),
-            Layer::Foreground => self.foreground.tile(size, memory, place, look),
+        match layer_of(control) {
+            Layer::Background => self.background.tile(size, memory, place, control),
+            Layer::Foreground => self.foreground.tile(size, memory, place, control),
         }
     }
 }
 
+// The size of a new screen.
+fn first_size() -> Size
+    ensures { (result.width ≡ 512) × (result.height ≡ 320) }
+{
+    Size {
+        width: 512,
+        height: 320,
+    }
+}
+
 // Where a tile of a sprite stands, by its number, and where its bytes are.
-fn place_of(x: u16, y: u16, addr: u16, auto: u8, look: &Look, i: u16) -> Tile
-    ensures x { result.x ≡ (x + i * auto_step auto 2 look.now.columns) % 65536 }
-    ensures y { result.y ≡ (y + i * auto_step auto 1 look.now.flip_y) % 65536 }
-    ensures at { result.at ≡ (addr + i * (if has_bit auto 4 then tile_size look.now.two_bits else 0)) % 65536 }
+fn place_of(x: u16, y: u16, addr: u16, auto: u8, control: u8, i: u16) -> Tile
+    ensures { result ≡ place_of x y addr auto (look_of control) i }
 {
     Tile {
-        x: x.wrapping_add(i.wrapping_mul(auto_step(auto, 0x02, look.columns.is_flipped()))),
-        y: y.wrapping_add(i.wrapping_mul(auto_step(auto, 0x01, look.flip_y))),
-        at: addr.wrapping_add(i.wrapping_mul(bytes_step(auto, look))),
+        x: x.wrapping_add(i.wrapping_mul(auto_step(auto, 0x02, has_bit(control, 0x10)))),
+        y: y.wrapping_add(i.wrapping_mul(auto_step(auto, 0x01, has_bit(control, 0x20)))),
+        at: addr.wrapping_add(i.wrapping_mul(bytes_step(auto, control))),
     }
 }
 
 // How far the bytes of one tile lie from those of the next.
-fn bytes_step(auto: u8, look: &Look) -> u16
-    ensures { result ≡ (if has_bit auto 4 then tile_size look.now.two_bits else 0) }
+fn bytes_step(auto: u8, control: u8) -> u16
+    ensures { result ≡ bytes_step auto (look_of control) }
 {
-    if has_bit(auto, 0x04) { look.size() } else { 0 }
+    if has_bit(auto, 0x04) {
+        tile_size(has_bit(control, 0x80))
+    } else {
+        0
+    }
 }
 
 // Where a sprite leaves x, y and the address.
-fn place_after(x: u16, y: u16, addr: u16, auto: u8, look: &Look) -> Moved
-    ensures x { result.x ≡ (x + auto_step auto 1 look.now.columns) % 65536 }
-    ensures y { result.y ≡ (y + auto_step auto 2 look.now.flip_y) % 65536 }
-    ensures addr { result.addr ≡ (addr + (auto / 16 + 1) * (if has_bit auto 4 then tile_size look.now.two_bits else 0)) % 65536 }
+fn place_after(x: u16, y: u16, addr: u16, auto: u8, control: u8) -> Moved
+    ensures { result ≡ moved_by_sprite x y addr auto control }
 {
     let count = u16::from(auto / 16) + 1;
     Moved {
-        x: x.wrapping_add(auto_step(auto, 0x01, look.columns.is_flipped())),
-        y: y.wrapping_add(auto_step(auto, 0x02, look.flip_y)),
-        addr: addr.wrapping_add(count.wrapping_mul(bytes_step(auto, look))),
+        x: x.wrapping_add(auto_step(auto, 0x01, has_bit(control, 0x10))),
+        y: y.wrapping_add(auto_step(auto, 0x02, has_bit(control, 0x20))),
+        addr: addr.wrapping_add(count.wrapping_mul(bytes_step(auto, control))),
     }
 }
 
@@ -363,8 +368,7 @@ fn is_size(size: u16) -> bool
 fn span(at: u16, size: u16, flip: bool) -> (u16, u16)
     ensures ordered { result.0 ≤ result.1 }
     ensures within { result.1 ≤ size }
-    ensures covers { (k : ℕ) → k < size → (nat_le result.0 k && nat_lt k result.1)
-        ≡ (nat_le (if flip then 0 else at) k && nat_lt k (if flip then at else size)) }
+    ensures value { result ≡ filled_span at size flip }
 {
     if flip {
         (0, at.min(size))

@@ -1,5 +1,6 @@
 //! The marks of a screen's rows.
-ghost use Rattle.std.specs.Prelude.{ℕ, ◌≡◌, ◌⊎◌, ◌+◌, ◌==◌, ◌<◌, ◌≤◌, ◌&&◌, ◌||◌, Bool, true, false, nat_le, nat_lt, if◌then◌else◌, List, IfOk, length};
+ghost use Rattle.std.specs.Prelude.{ℕ, ◌≡◌, ◌⊎◌, ◌+◌, ◌==◌, ◌<◌, ◌≤◌, ◌&&◌, ◌||◌, Bool, true};
+ghost use Rattle.std.specs.Prelude.{false, nat_le, nat_lt, if◌then◌else◌, List, IfOk, length};
 ghost use Rattle.screen_layers.specs.Layers.{MarksMore, mark_at};
 ghost use Rattle.screen_layers.specs.Drawings.{fill, dot, tile, pixel_distance};
 
@@ -65,7 +66,7 @@ impl Marks {
         requires { (x < size.width) × (y < 2047) }
         ensures { (colour : ℕ) → MarksMore self.old self.new size.width size.height (dot x y colour) }
     {
-        mark_row(&mut self.rows, usize::from(y));
+        self.rows[usize::from(y)] = true;
     }
 
     /// Marks the rows of a rectangle, if it has a column.
@@ -95,15 +96,6 @@ impl Marks {
     }
 }
 
-// Marks one row.
-fn mark_row(rows: &mut [bool], y: usize)
-    requires { y < length rows.old }
-    ensures marks { (other : ℕ) → mark_at rows.new other ≡ (if other == y then true else mark_at rows.old other) }
-    ensures length { length rows.new ≡ length rows.old }
-{
-    rows[y] = true;
-}
-
 // Marks rows from one up to another.
 fn mark_span(rows: &mut [bool], top: usize, bottom: usize)
     requires { top ≤ bottom × (bottom ≤ length rows.old) }
@@ -118,7 +110,6 @@ fn mark_tile(rows: &mut [bool], y: u16, height: u16)
     requires length { length rows.old ≡ 2047 }
     requires height { height ≤ 2047 }
     ensures marks { (row : ℕ) → row < height → mark_at rows.new row ≡ (nat_lt (pixel_distance y row) 8 || mark_at rows.old row) }
-    ensures kept { (row : ℕ) → mark_at rows.old row ≡ true → mark_at rows.new row ≡ true }
     ensures length { length rows.new ≡ 2047 }
 {
     let from = usize::from(y);
@@ -135,7 +126,6 @@ fn mark_rows(rows: &mut [bool], y: u16, height: u16)
     requires length { length rows.old ≡ 2047 }
     requires height { height ≤ 2047 }
     ensures marks { (row : ℕ) → row < height → mark_at rows.new row ≡ (nat_lt (pixel_distance y row) 8 || mark_at rows.old row) }
-    ensures kept { (row : ℕ) → mark_at rows.old row ≡ true → mark_at rows.new row ≡ true }
     ensures length { length rows.new ≡ 2047 }
 {
     for row in 0..8 {

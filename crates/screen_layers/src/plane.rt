@@ -1,9 +1,8 @@
 //! A layer's pixels, and how shapes are painted on them.
-ghost use Rattle.std.specs.Prelude.{ℕ, ◌≡◌, ◌+◌, ◌*◌, ◌<◌, ◌≤◌, All, IfOk, length, take, drop, slice_index, replicate};
+ghost use Rattle.std.specs.Prelude.{ℕ, true, ◌≡◌, ◌+◌, ◌*◌, ◌<◌, ◌≤◌, All, IfOk, length, take, drop, slice_index, replicate};
 ghost use Rattle.screen_frame.specs.Colours.{shown};
-ghost use Rattle.screen_layers.specs.Control.{tile_size};
-ghost use Rattle.screen_layers.specs.Drawings.{fill, dot, tile, tile_bytes_at};
-ghost use Rattle.screen_layers.specs.Layers.{PaintedOver, pixel_at};
+ghost use Rattle.screen_layers.specs.Drawings.{painted, fill, dot, tile_at, look_of};
+ghost use Rattle.screen_layers.specs.Layers.{PaintedOver, row_shown};
 
 use crate::size::{Area, Size};
 use crate::tile::{Look, paint_row};
@@ -74,8 +73,7 @@ impl Plane {
         requires across { area.left ≤ area.right × (area.right ≤ size.width) }
         requires down { area.top ≤ area.bottom × (area.bottom ≤ size.height) }
         requires colour { colour < 4 }
-        ensures painted { PaintedOver self.old self.new size.width size.height (fill area.left area.right area.top area.bottom colour) }
-        ensures length { length self.new ≡ length self.old }
+        ensures { PaintedOver self.old self.new size.width size.height (painted (fill area.left area.right area.top area.bottom colour)) }
     {
         fill_area(&mut self.pixels[LEAD..], size, area, colour);
     }
@@ -85,21 +83,18 @@ impl Plane {
         requires plane { length self.old ≡ size.height * size.width }
         requires place { (x < size.width) × (y < size.height) }
         requires colour { colour < 4 }
-        ensures painted { PaintedOver self.old self.new size.width size.height (dot x y colour) }
-        ensures length { length self.new ≡ length self.old }
+        ensures { PaintedOver self.old self.new size.width size.height (painted (dot x y colour)) }
     {
         self.pixels[LEAD + (size.start(y) + usize::from(x))] = colour;
     }
 
     /// Paints a tile, as far as it lies within the size. Its coordinates wrap, and so do the addresses of its bytes.
-    pub fn tile(&mut self, size: Size, memory: &Memory, place: Tile, look: &Look)
+    pub fn tile(&mut self, size: Size, memory: &Memory, place: Tile, control: u8)
         requires plane { length self.old ≡ size.height * size.width }
         requires size { size.width ≤ 2047 }
-        ensures painted { PaintedOver self.old self.new size.width size.height
-            (tile place.x place.y (tile_bytes_at memory.now place.at (tile_size look.now.two_bits)) look.now.columns look.now.flip_y look.now.inks) }
-        ensures length { length self.new ≡ length self.old }
+        ensures { PaintedOver self.old self.new size.width size.height (painted (tile_at memory.now place (look_of control))) }
     {
-        paint_tile(&mut self.pixels[LEAD..], size, memory, place, look);
+        paint_tile(&mut self.pixels[LEAD..], size, memory, place, control);
     }
 
     /// A row.
@@ -120,40 +115,16 @@ impl Plane {
         requires foreground { length foreground.now ≡ size.height * size.width }
         requires background { length background.now ≡ size.height * size.width }
         requires row { y < size.height }
-        ensures row { (x : ℕ) → x < size.width → pixel_at size.width self.new x y
-            ≡ shown (pixel_at size.width foreground.now x y) (pixel_at size.width background.now x y) }
-        ensures others { (x other : ℕ) → x < size.width → (other ≡ y → ⊥) → pixel_at size.width self.new x other
-            ≡ pixel_at size.width self.old x other }
-        ensures length { length self.new ≡ length self.old }
+        ensures { PaintedOver self.old self.new size.width size.height (row_shown size.width foreground.now background.now y) }
     {
-        compose_at(
-            &mut self.pixels[LEAD..],
-            size,
-            y,
+        let from = LEAD + size.start(y);
+        let to = from + usize::from(size.width);
+        compose_row(
             foreground.row(size, y),
             background.row(size, y),
+            &mut self.pixels[from..to],
         );
     }
-}
-
-// Puts a row in its place that is composed of two.
-fn compose_at(pixels: &mut [u8], size: Size, y: u16, foreground: &[u8], background: &[u8])
-    requires plane { length pixels.old ≡ size.height * size.width }
-    requires row { y < size.height }
-    requires foreground { length foreground.now ≡ size.width }
-    requires background { length background.now ≡ size.width }
-    ensures row { (x : ℕ) → x < size.width → pixel_at size.width pixels.new x y ≡ shown (slice_index foreground.now x) (slice_index background.now x) }
-    ensures others { (x other : ℕ) → x < size.width → (other ≡ y → ⊥) → pixel_at size.width pixels.new x other ≡ pixel_at size.width pixels.old x other }
-    ensures length { length pixels.new ≡ length pixels.old }
-    ensures colours { All (λ colour. colour < 4) foreground.now → All (λ colour. colour < 4) background.now
-        → All (λ colour. colour < 4) pixels.old → All (λ colour. colour < 4) pixels.new }
-{
-    let start = size.start(y);
-    compose_row(
-        foreground,
-        background,
-        &mut pixels[start..start + usize::from(size.width)],
-    );
 }
 
 /// The values that are shown where two rows lie over each other.
@@ -161,7 +132,8 @@ pub fn compose_row(foreground: &[u8], background: &[u8], into: &mut [u8])
     requires foreground { length foreground.now ≡ length into.old }
     requires background { length background.now ≡ length into.old }
     ensures count { length into.new ≡ length foreground.now }
-    ensures values { (k : ℕ) → k < length foreground.now → slice_index into.new k ≡ shown (slice_index foreground.now k) (slice_index background.now k) }
+    ensures values { (k : ℕ) → k < length foreground.now
+        → slice_index into.new k ≡ shown (slice_index foreground.now k) (slice_index background.now k) }
     ensures colours { All (λ colour. colour < 4) foreground.now → All (λ colour. colour < 4) background.now → All (λ colour. colour < 4) into.new }
 {
     for i in 0..into.len() {
@@ -196,8 +168,7 @@ fn fill_area(pixels: &mut [u8], size: Size, area: Area, colour: u8)
     requires plane { length pixels.old ≡ size.height * size.width }
     requires across { area.left ≤ area.right × (area.right ≤ size.width) }
     requires down { area.top ≤ area.bottom × (area.bottom ≤ size.height) }
-    ensures painted { PaintedOver pixels.old pixels.new size.width size.height (fill area.left area.right area.top area.bottom colour) }
-    ensures length { length pixels.new ≡ length pixels.old }
+    ensures painted { PaintedOver pixels.old pixels.new size.width size.height (painted (fill area.left area.right area.top area.bottom colour)) }
     ensures colours { colour < 4 → All (λ colour. colour < 4) pixels.old → All (λ colour. colour < 4) pixels.new }
 {
     if area.left == 0 && area.right == size.width {
@@ -214,22 +185,44 @@ fn fill_area(pixels: &mut [u8], size: Size, area: Area, colour: u8)
     }
 }
 
-// Paints the rows of a tile that lie on the screen.
-fn paint_tile(pixels: &mut [u8], size: Size, memory: &Memory, place: Tile, look: &Look)
+// Paints a tile, as far as it lies on the screen.
+fn paint_tile(pixels: &mut [u8], size: Size, memory: &Memory, place: Tile, control: u8)
     requires plane { length pixels.old ≡ size.height * size.width }
     requires size { size.width ≤ 2047 }
-    ensures painted { PaintedOver pixels.old pixels.new size.width size.height
-        (tile place.x place.y (tile_bytes_at memory.now place.at (tile_size look.now.two_bits)) look.now.columns look.now.flip_y look.now.inks) }
-    ensures length { length pixels.new ≡ length pixels.old }
+    ensures painted { PaintedOver pixels.old pixels.new size.width size.height (painted (tile_at memory.now place (look_of control))) }
     ensures colours { All (λ colour. colour < 4) pixels.old → All (λ colour. colour < 4) pixels.new }
 {
+    if usize::from(place.x) + 8 <= usize::from(size.width) {
+        paint_rows(pixels, size, memory, place, control, true);
+    } else {
+        paint_rows(pixels, size, memory, place, control, false);
+    }
+}
+
+// Paints the rows of a tile that lie on the screen. `is_whole` says that all its columns do too.
+#[inline(always)]
+fn paint_rows(
+    pixels: &mut [u8],
+    size: Size,
+    memory: &Memory,
+    place: Tile,
+    control: u8,
+    is_whole: bool,
+)
+    requires plane { length pixels.old ≡ size.height * size.width }
+    requires size { size.width ≤ 2047 }
+    requires whole { is_whole ≡ true → place.x + 8 ≤ size.width }
+    ensures painted { PaintedOver pixels.old pixels.new size.width size.height (painted (tile_at memory.now place (look_of control))) }
+    ensures colours { All (λ colour. colour < 4) pixels.old → All (λ colour. colour < 4) pixels.new }
+{
+    let look = Look::of(control);
     for row in 0..8 {
         let y = place.y.wrapping_add(row);
         if y < size.height {
             let (low, high) = look.row_bytes(memory, place.at, row);
             let start = size.start(y);
             let end = start + usize::from(size.width);
-            paint_row(&mut pixels[start..end], place.x, low, high, look);
+            paint_row(&mut pixels[start..end], place.x, low, high, &look, is_whole);
         }
     }
 }

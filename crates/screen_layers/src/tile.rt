@@ -1,7 +1,7 @@
 //! Tiles: how their bytes, flips and blend make the colours of a row.
-ghost use Rattle.std.specs.Prelude.{ℕ, ◌≡◌, ◌+◌, ◌-◌, ◌*◌, ◌%◌, ◌<◌, ◌≤◌, if◌then◌else◌, All, length, slice_index, unwrap_or};
+ghost use Rattle.std.specs.Prelude.{ℕ, true, ◌≡◌, ◌+◌, ◌-◌, ◌*◌, ◌%◌, ◌<◌, ◌≤◌, if◌then◌else◌, All, length, slice_index, unwrap_or};
 ghost use Rattle.screen_layers.specs.Blending.{ink};
-ghost use Rattle.screen_layers.specs.Control.{flips_x, flips_y, has_two_bits, tile_size};
+ghost use Rattle.screen_layers.specs.Control.{tile_size};
 ghost use Rattle.screen_layers.specs.Drawings.{bit_number, bit_of, pixel_value, row_painted, plane_byte, tile_bytes_at};
 
 use crate::control::has_bit;
@@ -113,13 +113,6 @@ impl Columns {
         }
     }
 
-    /// Whether they are flipped.
-    pub fn is_flipped(&self) -> bool
-        ensures { result ≡ self.now }
-    {
-        self.flip_x
-    }
-
     // Whether a byte has the bit of a column.
     fn bit(&self, byte: u8, column: usize) -> bool
         requires { column < 8 }
@@ -139,12 +132,11 @@ pub struct Look {
 }
 
 impl Look {
+    ghost use Rattle.screen_layers.specs.Drawings.{look_of};
+
     /// The look that a control byte gives.
     pub fn of(control: u8) -> Look
-        ensures flip_x { result.columns ≡ flips_x control }
-        ensures flip_y { result.flip_y ≡ flips_y control }
-        ensures two_bits { result.two_bits ≡ has_two_bits control }
-        ensures blend { result.inks ≡ control % 16 }
+        ensures { result ≡ look_of control }
     {
         Look {
             columns: Columns::of(has_bit(control, 0x10)),
@@ -152,13 +144,6 @@ impl Look {
             two_bits: has_bit(control, 0x80),
             inks: Inks::of(control % 16),
         }
-    }
-
-    /// How many bytes a tile has.
-    pub fn size(&self) -> u16
-        ensures { result ≡ tile_size self.now.two_bits }
-    {
-        if self.two_bits { 16 } else { 8 }
     }
 
     /// The low and the high byte that a row of the tile at an address shows.
@@ -188,12 +173,19 @@ impl Look {
         ensures { result ≡ slice_index (tile_bytes_at memory.now at (tile_size self.now.two_bits)) place }
     {
         memory.known();
-        if place < self.size() {
+        if place < tile_size(self.two_bits) {
             memory.get(at.wrapping_add(place))
         } else {
             0
         }
     }
+}
+
+/// How many bytes a tile has, whose pixels have two bits or one.
+pub fn tile_size(two_bits: bool) -> u16
+    ensures { result ≡ tile_size two_bits }
+{
+    if two_bits { 16 } else { 8 }
 }
 
 // The pixel at a column of a row, once it was drawn over what was there.
@@ -210,33 +202,31 @@ fn pixel_over(low: u8, high: u8, column: usize, look: &Look, under: u8) -> u8
 }
 
 /// Paints a row of a tile on a row of a layer, from the tile's x on; only columns on the layer's row are painted.
-pub fn paint_row(row: &mut [u8], x: u16, low: u8, high: u8, look: &Look)
-    requires { length row.old ≤ 2047 }
+pub fn paint_row(row: &mut [u8], x: u16, low: u8, high: u8, look: &Look, is_whole: bool)
+    requires row { length row.old ≤ 2047 }
+    requires whole { is_whole ≡ true → x + 8 ≤ length row.old }
     ensures pixels { (k : ℕ) → k < length row.old → slice_index row.new k
         ≡ unwrap_or (row_painted x low high look.now.columns look.now.inks k) (slice_index row.old k) }
     ensures colours { All (λ colour. colour < 4) row.old → All (λ colour. colour < 4) row.new }
 {
-    let from = usize::from(x);
-    if from + 8 <= row.len() {
+    if is_whole {
+        let from = usize::from(x);
         paint_whole(&mut row[from..from + 8], low, high, look);
     } else {
         paint_clipped(row, x, low, high, look);
     }
 }
 
-// Paints a row of a tile on a span of eight pixels, which are put together first.
+// Paints a row of a tile on a span of eight pixels.
 fn paint_whole(span: &mut [u8], low: u8, high: u8, look: &Look)
     requires { length span.old ≡ 8 }
     ensures pixels { (k : ℕ) → k < 8 → slice_index span.new k
         ≡ unwrap_or (ink look.now.inks (pixel_value low high look.now.columns k)) (slice_index span.old k) }
     ensures colours { All (λ colour. colour < 4) span.old → All (λ colour. colour < 4) span.new }
 {
-    let mut pixels = [0; 8];
-    pixels.copy_from_slice(span);
     for column in 0..8 {
-        pixels[column] = pixel_over(low, high, column, look, pixels[column]);
+        span[column] = pixel_over(low, high, column, look, span[column]);
     }
-    span.copy_from_slice(&pixels);
 }
 
 // Paints a row of a tile, with a test for each column.

@@ -1,22 +1,18 @@
-use Rattle.std.proofs.Common.{◌≡◌, sym, ap, ◌∙◌, arith}
+use Rattle.std.proofs.Common.{◌≡◌, true, sym, ap, ◌∙◌, arith}
 use Rattle.screen_layers.specs.Layers.{Layers}
-use Rattle.screen_layers.proofs.RefreshLemmas.{refreshed-none, refreshed-marked, refreshed-plain, refreshed-all}
+use Rattle.screen_layers.proofs.RefreshLemmas.{refreshed-more, refreshed-plain, refreshed-all}
 use Rattle.screen_layers.proofs.Screen.refresh.Goals as goal
 use Rattle.screen_layers.proofs.Screen.refresh.Goals.{then-is_marked, else-is_marked}
 
-pub loop-y-init : goal.loop-y-init
-loop-y-init c = record { rows = refreshed-none _; end = ap (λ (s : Layers). s.height) c.self.view_is }
-
 pub loop-y-preserved : goal.loop-y-preserved
 loop-y-preserved c =
-    let rows = c.loop-y.invariant.rows in
     elim c.if-is_marked.branch [
       | then-is_marked w ↦ rw (w.self-is, w.count-is) record {
-        rows = refreshed-marked _ c.loop-y.self w.compose.new.self c.loop-y.y c.loop-y.count rows (sym c.is_marked.ensures.held ∙ w.if-is_marked.true) w.compose.ensures.picture w.compose.ensures.marks;
+        rows = refreshed-more _ c.loop-y.self w.compose.new.self c.loop-y.y c.loop-y.count true c.loop-y.invariant.rows (sym c.is_marked.ensures.held ∙ w.if-is_marked.true) w.compose.ensures.picture w.compose.ensures.marks;
         end = c.loop-y.invariant.end;
       }
       | else-is_marked w ↦ rw (w.self-is, w.count-is) record {
-        rows = refreshed-plain _ c.loop-y.self c.loop-y.y c.loop-y.count rows (sym c.is_marked.ensures.held ∙ w.if-is_marked.false);
+        rows = refreshed-plain _ c.loop-y.self c.loop-y.y c.loop-y.count c.loop-y.invariant.rows (sym c.is_marked.ensures.held ∙ w.if-is_marked.false);
         end = c.loop-y.invariant.end;
       }
     ]

@@ -1,20 +1,18 @@
-use Rattle.std.proofs.Common.{arith, refl, ◌∙◌}
+use Rattle.std.proofs.Common.{arith}
 use Rattle.screen_layers.proofs.FillLemmas.{fill-none, fill-more, fill-whole, fill-colours}
 use Rattle.screen_layers.proofs.Rows.{row_order}
-use Rattle.screen_layers.proofs.Spans.{length-span, length-put_mid}
 use Rattle.screen_layers.proofs.plane.fill_area.Goals as goal
 
 pub loop-y-init : goal.loop-y-init
-loop-y-init c = record { painted = fill-none _ _ _ _ _ _ _; length = refl; colours = λ fits each. each }
+loop-y-init c = record { painted = fill-none _ _ _ _ _ _ _; colours = λ fits each. each }
 
 pub loop-y-preserved : goal.loop-y-preserved
 loop-y-preserved c =
-    let size = c.loop-y.invariant.length in
+    let size = c.loop-y.invariant.painted.count in
     let within = c.start-start-in-loop-y.ensures.within (omega arith) in
     record {
       painted = fill-more c.args.pixels.now c.loop-y.pixels c.fill_piece.new.piece c.args.size.width c.args.size.height c.args.area.left c.args.area.right c.args.area.top c.loop-y.y c.args.colour _ _
           (omega arith) (omega arith) (omega arith) (omega arith) (omega arith) (omega arith) c.fill_piece.ensures c.loop-y.invariant.painted;
-      length = length-put_mid _ _ c.loop-y.pixels c.fill_piece.new.piece (c.fill_piece.auto.piece ∙ length-span _ _ c.loop-y.pixels (omega arith)) (omega arith) ∙ size;
       colours = λ fits each. fill-colours c.loop-y.pixels c.fill_piece.new.piece c.args.colour _ _ fits c.fill_piece.ensures (c.loop-y.invariant.colours fits each);
     }
 

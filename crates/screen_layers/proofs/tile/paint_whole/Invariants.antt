@@ -6,8 +6,8 @@ use Rattle.screen_layers.proofs.tile.paint_whole.Given as goal
 abbrev pub invariant-loop-column : goal.invariant-loop-column
 invariant-loop-column l =
     record {
-      count : length l.pixels ≡ 8;
-      painted : (k : ℕ) → k < l.column → slice_index l.pixels k ≡ unwrap_or (ink l.look.inks (pixel_value l.low l.high l.look.columns k)) (slice_index l.fn.span k);
-      kept : (k : ℕ) → l.column ≤ k → slice_index l.pixels k ≡ slice_index l.fn.span k;
-      colours : All (λ colour. colour < 4) l.fn.span → All (λ colour. colour < 4) l.pixels;
+      count : length l.span ≡ 8;
+      painted : (k : ℕ) → k < l.column → slice_index l.span k ≡ unwrap_or (ink l.look.inks (pixel_value l.low l.high l.look.columns k)) (slice_index l.fn.span k);
+      kept : (k : ℕ) → l.column ≤ k → slice_index l.span k ≡ slice_index l.fn.span k;
+      colours : All (λ colour. colour < 4) l.fn.span → All (λ colour. colour < 4) l.span;
     }

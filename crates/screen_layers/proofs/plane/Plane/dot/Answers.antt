@@ -20,7 +20,5 @@ invariant_of-self c =
 pub returns : goal.returns
 returns c =
     let place = c.start.result + c.from.result in
-    rw (drop-set-add 48 c.self.inside.pixels.items place c.args.colour, c.self.view_is) record {
-      painted = dot-painted c.args.self.now c.args.size.width c.args.size.height c.args.x c.args.y c.args.colour place c.requires.plane c.requires.place.0 c.requires.place.1 (omega arith);
-      length = length-set c.args.self.now place c.args.colour;
-    }
+    rw (drop-set-add 48 c.self.inside.pixels.items place c.args.colour, c.self.view_is)
+    (dot-painted c.args.self.now c.args.size.width c.args.size.height c.args.x c.args.y c.args.colour place c.requires.plane c.requires.place.0 c.requires.place.1 (omega arith))

@@ -1,5 +1,5 @@
 use Rattle.std.proofs.Common.{arith, ap, length, ◌∙◌}
-use Rattle.screen_layers.proofs.LeadLemmas.{before-of, are-written}
+use Rattle.screen_layers.proofs.LeadLemmas.{before-of, all-are-written}
 use Rattle.screen_layers.proofs.plane.Plane.tile.Goals as goal
 
 pub paint_tile-requires-clause-plane : goal.paint_tile-requires-clause-plane
@@ -7,10 +7,10 @@ paint_tile-requires-clause-plane c = ap length (before-of _ _ _ c.deref_mut.ensu
 
 pub invariant_of-self : goal.invariant_of-self
 invariant_of-self c =
-    let w = are-written c.self.inside.pixels.items _ _ _ c.self.inside.pixels.len c.deref_mut.ensures.value c.self.view_is (omega arith) (omega arith) c.paint_tile.ensures.length in
+    let w = all-are-written c.self.inside.pixels.items _ _ _ c.self.inside.pixels.len c.deref_mut.ensures.value c.self.view_is (omega arith) (omega arith) c.paint_tile.ensures.painted.count in
     (c.self.invariant.0, w.room, rw w.after (c.paint_tile.ensures.colours (rw w.before (rw c.self.view_is at c.self.invariant.2))))
 
 pub returns : goal.returns
 returns c =
-    let w = are-written c.self.inside.pixels.items _ _ _ c.self.inside.pixels.len c.deref_mut.ensures.value c.self.view_is (omega arith) (omega arith) c.paint_tile.ensures.length in
-    rw w.after record { painted = rw w.before at c.paint_tile.ensures.painted; length = rw w.before at c.paint_tile.ensures.length }
+    let w = all-are-written c.self.inside.pixels.items _ _ _ c.self.inside.pixels.len c.deref_mut.ensures.value c.self.view_is (omega arith) (omega arith) c.paint_tile.ensures.painted.count in
+    rw w.after (rw w.before at c.paint_tile.ensures.painted)
