@@ -1,6 +1,6 @@
 -- What is pushed keeps the limits of scripts.
-use Rattle.std.proofs.Common.{◌≡◌, ◌<◌, ◌+◌, ◌-◌, ℕ, List, [], ◌∷◌, ◌++◌, map, take, length, ap₂, ◌∙◌, arith}
-use Rattle.std.proofs.lemmas.List.{take_all}
+use Rattle.std.proofs.lemmas.Grind.{common_steps}
+use Rattle.std.proofs.Common.{◌≡◌, ◌<◌, ◌+◌, ◌-◌, ℕ, List, [], ◌∷◌, ◌++◌, map, take, length, arith}
 use Rattle.std.specs.Prelude.{replicate}
 use Rattle.std.specs.List.{All}
 use Rattle.std.proofs.lemmas.List.Elements.{All-nil, All-head, All-tail, All-append, All-replicate, All-map, All-weaker}
@@ -29,6 +29,4 @@ pushed_times number before given count valid is = All-append (IsEvent number) be
 -- a list made longer by so many of one event
 pub made_longer : (before items : List Event) (given : Event) (size held count : ℕ) → size ≡ held → length before ≡ held
     → items ≡ take (size + count) before ++ replicate (size + count - held) given → items ≡ before ++ replicate count given
-made_longer before items given size held count is_size is_held is =
-    let more : size + count - held ≡ count = omega (arith, is_size) in
-    is ∙ ap₂ (λ prefix n. prefix ++ replicate n given) (take_all (size + count) before (omega (arith, is_size, is_held))) more
+made_longer before items given size held count is_size is_held is = grind (arith, common_steps)

@@ -1,12 +1,13 @@
 -- Words that are printed are read back.
-use Rattle.std.proofs.Common.{◌≡◌, ℕ, zero, suc, ◌/◌, ◌%◌, ◌<◌, ◌≤◌, Bool, true, false, ◌&&◌, ◌||◌, ◌^◌, eqb, ltb, not, ℤ, pos, negsuc, neg_ℤ, ◌≤ℤ◌, List, [], ◌∷◌, length, get_or, map, Some, inl, inr, refl, ap, ◌∙◌, arith}
+use Rattle.std.proofs.lemmas.Grind.{common_steps}
+use Rattle.std.proofs.Common.{◌≡◌, ℕ, zero, suc, ◌/◌, ◌%◌, ◌<◌, ◌≤◌, Bool, true, false, ◌&&◌, ◌||◌, ◌^◌, eqb, ltb, not, ℤ, pos, negsuc, neg_ℤ, ◌≤ℤ◌}
+use Rattle.std.proofs.Common.{List, [], ◌∷◌, length, get_or, map, Some, refl, ap, ◌∙◌, arith}
 use Rattle.std.specs.Prelude.{decimal}
 use Rattle.std.specs.Fmt.{signed_decimal}
-use Rattle.std.specs.List.{All, AllByRecursion, list_all, list_any}
-use Rattle.std.proofs.lemmas.Bool.{cases_eq, cases_lt, lt-ltb, le-leb, and_from, and_parts}
+use Rattle.std.specs.List.{All, list_all}
+use Rattle.std.proofs.lemmas.Bool.{lt-ltb, le-leb, and_from, and_parts}
 use Rattle.std.proofs.lemmas.Fmt.{digits_decimal, digits_value-decimal, decimal_nonempty, first_decimal, decimal_digit}
-use Rattle.std.proofs.lemmas.List.{get_or_past}
-use Rattle.std.proofs.lemmas.List.Elements.{All-head, All-tail, All-nil, All-cons, All-get_or, All-weaker}
+use Rattle.std.proofs.lemmas.List.Elements.{All-head, All-tail, All-nil, All-cons, All-get_or}
 use Rattle.std.proofs.lemmas.List.Sums.{AllPass-from_list_all, list_all-from_AllPass}
 use Rattle.uxn_limits.specs.declared.limits.TheConstants.{LAST_SECOND, LAST_OFFSET}
 use Rattle.hex.specs.Hex.{encode_lower, encode_with, lower_digits, IsBytes}
@@ -30,8 +31,7 @@ index_of p word all i within = All-get_or (λ byte. p byte ≡ true) word i 0 wi
 
 -- all bytes pass a weaker test too
 pub weaker : (p q : ℕ → Bool) → ((byte : ℕ) → p byte ≡ true → q byte ≡ true) → (word : List ℕ) → list_all p word ≡ true → list_all q word ≡ true
-weaker p q step word all =
-    list_all-from_AllPass q word (All-weaker (λ byte. p byte ≡ true) (λ byte. q byte ≡ true) step word (AllPass-from_list_all p word all))
+weaker p q step word all = grind (arith, common_steps, list_all-from_AllPass)
 
 -- decimal numbers
 decimal_digits : (n : ℕ) → n < 2 ^ 64 → list_all is_digit (decimal n) ≡ true
@@ -47,13 +47,11 @@ leads zero small = rw (decimal_digit 0 (omega arith)) refl
 leads (suc n) small = let first = first_decimal (suc n) (omega arith) small in grind arith
 
 number_is : (n : ℕ) → n < 2 ^ 64 → is_number (decimal n) ≡ true
-number_is n small =
-    and_from _ _ (and_from _ _ (lt-ltb 0 (length (decimal n)) (decimal_nonempty n small)) (decimal_digits n small)) (leads n small)
+number_is n small = grind (arith, common_steps, and_from, decimal_digits, decimal_nonempty, leads, lt-ltb)
 
 pub number_back : (low high n : ℕ) → low ≤ n → n ≤ high → n < 2 ^ 64 → number_within low high (decimal n) ≡ Some n
 unfolding number_within
-number_back low high n from to small =
-    rw (number_is n small, digits_value-decimal own n small, le-leb low n from, le-leb n high to) refl
+number_back low high n from to small = grind (arith, common_steps, digits_value-decimal, le-leb, number_is, own)
 
 -- the first byte of a decimal number is no sign and no quote
 digit_first : (byte : ℕ) (word : List ℕ) → list_all (λ b. ltb 47 b) word ≡ true → byte < 48 → begins_with byte word ≡ false
@@ -67,14 +65,11 @@ decimal_first byte n small low =
 begins_head : (byte : ℕ) (word : List ℕ) → begins_with byte (byte ∷ word) ≡ true
 begins_head byte word = grind arith
 
-pub integer_back : (below high : ℕ) (z : ℤ) → below < 2 ^ 63 → high < 2 ^ 63 → neg_ℤ (pos below) ≤ℤ z → z ≤ℤ pos high → integer_within below high (signed_decimal z) ≡ Some z
+pub integer_back : (below high : ℕ) (z : ℤ) → below < 2 ^ 63 → high < 2 ^ 63 → neg_ℤ (pos below) ≤ℤ z → z ≤ℤ pos high
+    → integer_within below high (signed_decimal z) ≡ Some z
 unfolding integer_within
-integer_back below high (pos n) wide tall from to =
-    let top : n ≤ high = omega (arith, le_out, to) in
-    rw (decimal_first 45 n (omega arith) (omega arith), number_back 0 high n (omega arith) top (omega arith)) refl
-integer_back below high (negsuc n) wide tall from to =
-    let top : suc n ≤ below = omega (arith, le_out, neg_is, from) in
-    rw (begins_head 45 (decimal (suc n)), number_back 0 below (suc n) (omega arith) top (omega arith)) refl
+integer_back below high (pos n) wide tall from to = grind (arith, common_steps, decimal_first, number_back)
+integer_back below high (negsuc n) wide tall from to = grind (arith, common_steps, begins_head, number_back)
 
 pub plain_signed : (below high : ℕ) (z : ℤ) → below < 2 ^ 63 → high < 2 ^ 63 → neg_ℤ (pos below) ≤ℤ z → z ≤ℤ pos high → is_plain (signed_decimal z) ≡ true
 plain_signed below high (pos n) wide tall from to = plain_decimal n (omega (arith, le_out, to))
@@ -99,15 +94,11 @@ plain_pairs bytes some small =
     (weaker (λ b. ltb 47 b) (λ b. ltb 32 b) (λ b high. grind arith) (encode_lower bytes) (pairs_high bytes small))
 
 are_bytes : (bytes : List ℕ) → All (λ byte. byte < 256) bytes → IsBytes bytes
-are_bytes bytes small i = elim (cases_lt i (length bytes)) [
-  | inl within ↦ small i 0 within
-  | inr past ↦ rw (get_or_past bytes i 0 past) (omega arith)
-]
+are_bytes bytes small i = grind (arith, common_steps)
 
 pub pairs_back : (bytes : List ℕ) → All (λ byte. byte < 256) bytes → text_of_values (encode_lower bytes) ≡ Some bytes
 unfolding text_of_values
-pairs_back bytes small =
-    rw (digit_first 34 (encode_lower bytes) (pairs_high bytes small) (omega arith), decode_of-encode_lower bytes (are_bytes bytes small)) refl
+pairs_back bytes small = grind (arith, common_steps, are_bytes, decode_of-encode_lower, digit_first, pairs_high)
 
 text_word_is : (byte : ℕ) (bytes : List ℕ) → text_word (byte ∷ bytes) ≡ encode_lower (byte ∷ bytes)
 text_word_is byte bytes = let filled : eqb (length (byte ∷ bytes)) 0 ≡ false = grind arith in rw filled refl
@@ -128,25 +119,17 @@ pub byte_back : (byte : ℕ) → byte < 256 → byte_of (encode_lower (byte ∷ 
 unfolding byte_of
 byte_back byte small = rw (decode_sized-encode_lower (byte ∷ []) 1 refl (are_bytes (byte ∷ []) (one_byte byte small))) refl
 
--- what holds of each bit holds of a mask of one button
-any_holds : (P : ℕ → Type 0) (bits : List ℕ) → AllByRecursion P bits → (mask : ℕ) → list_any (λ bit. eqb bit mask) bits ≡ true → P mask
-any_holds P [] all mask is = absurd (grind (arith, is))
-any_holds P (bit ∷ bits) all mask is = elim (cases_eq bit mask) [
-  | inl e ↦ rw e at all.0
-  | inr n ↦ any_holds P bits all.1 mask (grind (arith, is, n))
-]
-
 -- a button's name is read back, and is a plain word
 abbrev pub IsScriptRead : Buttons → ℕ → Type 0
 IsScriptRead table mask = (bit_in table (name_in table mask) ≡ Some mask) × (is_plain (name_in table mask) ≡ true)
 
 pub button_back : (mask : ℕ) → IsBit mask → IsScriptRead buttons mask
 unfolding bit_in name_in
-button_back = any_holds (IsScriptRead buttons) (1 ∷ 2 ∷ 4 ∷ 8 ∷ 16 ∷ 32 ∷ 64 ∷ 128 ∷ []) ((refl, refl), ((refl, refl), ((refl, refl), ((refl, refl), ((refl, refl), ((refl, refl), ((refl, refl), ((refl, refl), tt))))))))
+button_back = grind (arith, common_steps)
 
 pub mouse_button_back : (mask : ℕ) → IsBit mask → IsScriptRead mouse_buttons mask
 unfolding bit_in name_in
-mouse_button_back = any_holds (IsScriptRead mouse_buttons) (1 ∷ 2 ∷ 4 ∷ 8 ∷ 16 ∷ 32 ∷ 64 ∷ 128 ∷ []) ((refl, refl), ((refl, refl), ((refl, refl), ((refl, refl), ((refl, refl), ((refl, refl), ((refl, refl), ((refl, refl), tt))))))))
+mouse_button_back = grind (arith, common_steps)
 
 -- the words of values are plain
 plain_value : (value : Value) → IsValue value → is_plain (value_word value) ≡ true

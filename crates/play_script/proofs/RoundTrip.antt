@@ -1,5 +1,7 @@
 -- A printed script is read back.
-use Rattle.std.proofs.Common.{◌≡◌, ℕ, ◌+◌, ◌<◌, ◌≤◌, Bool, true, false, eqb, ltb, leb, ℤ, pos, negsuc, neg_ℤ, ◌≤ℤ◌, List, [], ◌∷◌, ◌++◌, length, map, Option, Some, None, Ok, append_assoc, append-nil, refl, sym, ap, ◌∙◌, arith}
+use Rattle.std.proofs.lemmas.Grind.{common_steps}
+use Rattle.std.proofs.Common.{◌≡◌, ℕ, ◌+◌, ◌<◌, ◌≤◌, Bool, true, false, eqb, ltb, leb, ℤ, pos, negsuc, neg_ℤ, ◌≤ℤ◌, List, [], ◌∷◌, ◌++◌, length, map}
+use Rattle.std.proofs.Common.{Option, Some, None, Ok, append_assoc, append-nil, refl, sym, ap, ◌∙◌, arith}
 use Rattle.std.specs.Prelude.{codes, decimal}
 use Rattle.std.specs.Fmt.{signed_decimal}
 use Rattle.std.specs.List.{All, list_all, flat_map, join_with_byte}
@@ -7,9 +9,8 @@ use Rattle.std.specs.Option.{option_map, option_zip}
 use Rattle.std.proofs.lemmas.Bool.{and_from, and_parts, ltb-true}
 use Rattle.std.proofs.lemmas.List.{length-append}
 use Rattle.std.proofs.lemmas.List.Concat.{flat_map-append}
-use Rattle.std.proofs.lemmas.List.Elements.{All-head, All-tail, All-weaker}
+use Rattle.std.proofs.lemmas.List.Elements.{All-head, All-tail}
 use Rattle.std.proofs.lemmas.List.Folds.{list_all-append}
-use Rattle.std.proofs.lemmas.List.Sums.{AllPass-from_list_all}
 use Rattle.std.proofs.lemmas.List.Splits.{slice_split_at}
 use Rattle.uxn_limits.specs.declared.limits.TheConstants.{TEXT_LIMIT, MOST_EVENTS, LAST_SECOND, LAST_OFFSET}
 use Rattle.hex.specs.Hex.{encode_lower}
@@ -25,12 +26,16 @@ use Rattle.play_script.specs.declared.script.ScriptKind.{ScriptKind}
 use Rattle.play_script.specs.declared.script.Version.{Version}
 use Rattle.play_script.specs.declared.script.Version.TheVariants.{First, Second}
 use Rattle.play_script.specs.Limits.{IsEvent, IsScript, IsTime}
-use Rattle.play_script.specs.PlainText.{text_word, value_word, plain_event, event_words, clock_values, clock_words, argument_words, plain_lines, line_text, plain_text}
-use Rattle.play_script.specs.Rows.{Meaning, version, clock, arguments, event, rows_of, device_of, events_of_line, script_meaning_of, version_of, clock_of_values, keys_of, expect_of, buttons_of, mouse_buttons_of, mouse_of, scroll_of, script_line_of}
-use Rattle.play_script.specs.Scripts.{ScriptView, script_with, arguments_of, events_of, events_in, script_fault, script_from, script_of, version_at, version_in}
+use Rattle.play_script.specs.PlainText.{text_word, value_word, plain_event, event_words, clock_values, clock_words, argument_words, plain_lines}
+use Rattle.play_script.specs.PlainText.{line_text, plain_text}
+use Rattle.play_script.specs.Rows.{Meaning, version, clock, arguments, event, rows_of, device_of, events_of_line, script_meaning_of, version_of}
+use Rattle.play_script.specs.Rows.{clock_of_values, keys_of, expect_of, buttons_of, mouse_buttons_of, mouse_of, scroll_of, script_line_of}
+use Rattle.play_script.specs.Scripts.{ScriptView, script_with, arguments_of, events_of, events_in, script_fault, script_from, script_of, version_at}
+use Rattle.play_script.specs.Scripts.{version_in}
 use Rattle.play_script.specs.Values.{texts_of_values, one_or}
 use Rattle.text_lines.specs.Rows.{keyword_of, keyword_row}
-use Rattle.play_script.proofs.PrintedWords.{is_plain, weaker, number_back, integer_back, pairs_back, text_back, plain_text_word, one_byte, byte_back, button_back, mouse_button_back, plain_values}
+use Rattle.play_script.proofs.PrintedWords.{is_plain, weaker, number_back, integer_back, pairs_back, text_back, plain_text_word, one_byte, byte_back}
+use Rattle.play_script.proofs.PrintedWords.{button_back, mouse_button_back, plain_values}
 use Rattle.play_script.proofs.Stepping.{script_by, short_script}
 use Rattle.play_script.proofs.Versions.{lift}
 use borrow.Author.Differences.{le_out}
@@ -40,9 +45,7 @@ abbrev are_plain : List (List ℕ) → Bool
 are_plain words = list_all is_plain words
 
 no_blanks : (word : List ℕ) → is_plain word ≡ true → All (λ byte. is_blank byte ≡ false) word
-no_blanks word plain =
-    All-weaker (λ byte. ltb 32 byte ≡ true) (λ byte. is_blank byte ≡ false) (λ byte high. grind arith) word
-    (AllPass-from_list_all (λ byte. ltb 32 byte) word (and_parts (ltb 0 (length word)) (list_all (λ byte. ltb 32 byte) word) plain).1)
+no_blanks word plain = grind (arith, common_steps)
 
 some_bytes : (word : List ℕ) → is_plain word ≡ true → 0 < length word
 some_bytes word plain = ltb-true 0 (length word) (and_parts (ltb 0 (length word)) (list_all (λ byte. ltb 32 byte) word) plain).0
@@ -60,8 +63,7 @@ joined_words (word ∷ next ∷ words) plain =
 
 -- they part no lines
 high_word : (word : List ℕ) → is_plain word ≡ true → list_all (λ byte. leb 32 byte) word ≡ true
-high_word word plain =
-    weaker (λ byte. ltb 32 byte) (λ byte. leb 32 byte) (λ byte high. grind arith) word (and_parts (ltb 0 (length word)) (list_all (λ byte. ltb 32 byte) word) plain).1
+high_word word plain = grind (arith, common_steps, and_parts, weaker)
 
 high_bytes : (words : List (List ℕ)) → are_plain words ≡ true → list_all (λ byte. leb 32 byte) (join_with_byte 32 words) ≡ true
 high_bytes [] plain = refl
@@ -71,14 +73,12 @@ high_bytes (word ∷ next ∷ words) plain =
     rw (list_all-append (λ byte. leb 32 byte) word (32 ∷ join_with_byte 32 (next ∷ words))) (and_from _ _ (high_word word parts.0) (high_bytes (next ∷ words) parts.1))
 
 no_newlines : (line : List ℕ) → list_all (λ byte. leb 32 byte) line ≡ true → All (λ byte. is_newline byte ≡ false) line
-no_newlines line high = All-weaker (λ byte. leb 32 byte ≡ true) (λ byte. is_newline byte ≡ false) (λ byte here. grind arith) line (AllPass-from_list_all (λ byte. leb 32 byte) line high)
+no_newlines line high = grind (arith, common_steps)
 
 -- the lines of a text are read back
 cut_line : (line : List (List ℕ)) (lines : List (List (List ℕ))) → are_plain line ≡ true
     → lines_of (flat_map line_text (line ∷ lines)) ≡ join_with_byte 32 line ∷ lines_of (flat_map line_text lines)
-cut_line line lines plain =
-    ap lines_of (append_assoc (join_with_byte 32 line) (10 ∷ []) (flat_map line_text lines))
-    ∙ slice_split_at is_newline (join_with_byte 32 line) 10 (flat_map line_text lines) (no_newlines _ (high_bytes line plain)) refl
+cut_line line lines plain = grind (arith, common_steps, append_assoc, high_bytes, no_newlines, slice_split_at)
 
 empty_line : (number : Version) → script_line_of number (words_of []) ∷ [] ≡ Ok None ∷ []
 unfolding script_line_of keyword_of words_of
@@ -178,12 +178,12 @@ event_line First (Expect port byte) is = absurd is.belongs
 event_line Second (Expect port byte) is = rw (byte_back port is.within.0, byte_back byte is.within.1.0) refl
 
 -- the words of events are plain
-plain_name : (e : Event) → is_plain (plain_event e).0 ≡ true
+plain_name : (e : Event) → is_plain (plain_event e).1 ≡ true
 plain_name (Device (Key byte)) = refl
 plain_name _ = refl
 
 plain_words : (number : Version) (e : Event) → IsEvent number e → are_plain (event_words e) ≡ true
-plain_words number e is = and_from _ _ (plain_name e) (plain_values (plain_event e).1 is.within)
+plain_words number e is = and_from _ _ (plain_name e) (plain_values (plain_event e).2 is.within)
 
 -- events in a row
 abbrev ok_event : Event → Line Meaning ScriptKind

@@ -1,5 +1,7 @@
 -- What is gathered line by line is what the lines give.
-use Rattle.std.proofs.Common.{◌≡◌, ℕ, ◌+◌, Bool, true, false, ◌||◌, ltb, List, [], ◌∷◌, ◌++◌, length, Some, None, Result, Ok, Err, append-nil, refl, sym, ap, ◌∙◌, arith}
+use Rattle.std.proofs.lemmas.Grind.{common_steps}
+use Rattle.std.proofs.Common.{◌≡◌, ℕ, ◌+◌, Bool, true, false, ◌||◌, ltb, List, [], ◌∷◌, ◌++◌, length, Some, None, Result, Ok, Err, append-nil, refl}
+use Rattle.std.proofs.Common.{sym, ap, ◌∙◌, arith}
 use Rattle.std.specs.Option.{is_some}
 use Rattle.std.specs.Prelude.{slice_get}
 use Rattle.std.proofs.lemmas.List.{length-append}
@@ -7,14 +9,12 @@ use Rattle.std.proofs.lemmas.List.Concat.{flat_map-append}
 use Rattle.uxn_limits.specs.declared.limits.TheConstants.{TEXT_LIMIT}
 use Rattle.text_lines.specs.Lines.{LinesView, lines_of, words_of}
 use Rattle.text_lines.specs.Reading.{Line, given, made, fault_if, each_line}
-use Rattle.play_script.specs.declared.script.LineStop.{LineStop}
-use Rattle.play_script.specs.declared.script.LineStop.TheVariants.{Faulty, NoMemory}
 use Rattle.play_script.specs.declared.script.ScriptKind.{ScriptKind}
 use Rattle.play_script.specs.declared.script.ScriptKind.TheVariants.{Late}
 use Rattle.play_script.specs.declared.script.Version.{Version}
 use Rattle.play_script.specs.Rows.{Meaning, version, clock, arguments, events, script_line_of}
-use Rattle.play_script.specs.Scripts.{clocks_in, arguments_in, events_in, clocks_of, arguments_of, events_of, GatheredView, gathered, gathering_fault, finished_script, script_fault, ScriptView, script_from, script_in, version_in, ReadsScript}
-use Rattle.play_script.specs.Gathered.{at_line, grown, TakesLine}
+use Rattle.play_script.specs.Scripts.{GatheredView, gathered, gathering_fault, script_fault, ScriptView, script_from, script_in, version_in}
+use Rattle.play_script.specs.Gathered.{grown, TakesLine}
 
 -- the script of lines, and of a text that is short enough
 abbrev pub script_by : Version → List (List ℕ) → Result ScriptView (ℕ × ScriptKind)
@@ -24,15 +24,6 @@ pub short_script : (number : Version) (text : List ℕ) → ltb TEXT_LIMIT (leng
 short_script number text short = rw short refl
 
 -- what the lines with one more give
-more_clocks : (before : List Meaning) (m : Meaning) → clocks_of (before ++ m ∷ []) ≡ clocks_of before ++ clocks_in m
-more_clocks before m = flat_map-append clocks_in before (m ∷ []) ∙ ap (λ more. clocks_of before ++ more) (append-nil (clocks_in m))
-
-more_arguments : (before : List Meaning) (m : Meaning) → arguments_of (before ++ m ∷ []) ≡ arguments_of before ++ arguments_in m
-more_arguments before m = flat_map-append arguments_in before (m ∷ []) ∙ ap (λ more. arguments_of before ++ more) (append-nil (arguments_in m))
-
-more_events : (before : List Meaning) (m : Meaning) → events_of (before ++ m ∷ []) ≡ events_of before ++ events_in m
-more_events before m = flat_map-append events_in before (m ∷ []) ∙ ap (λ more. events_of before ++ more) (append-nil (events_in m))
-
 begun_now : (before : List Meaning) (m : Meaning) → ltb 0 (length (before ++ m ∷ [])) ≡ true
 begun_now before m = let size = length-append before (m ∷ []) in grind (arith, size)
 
@@ -45,15 +36,12 @@ first_of_empty [] x some none = refl
 first_of_empty (y ∷ ys) x true none = absurd (some_not_none none)
 first_of_empty (y ∷ ys) x false none = absurd (some_not_none none)
 
-grows : (number : Version) (before : List Meaning) (m : Meaning) → gathering_fault (gathered number before) m ≡ None → gathered number (before ++ m ∷ []) ≡ grown (gathered number before) m
-grows number before version none =
-    rw (begun_now before version, more_clocks before version, more_arguments before version, more_events before version, append-nil (clocks_of before), append-nil (arguments_of before), append-nil (events_of before)) refl
-grows number before (clock time) none =
-    rw (begun_now before (clock time), more_clocks before (clock time), more_arguments before (clock time), more_events before (clock time), append-nil (arguments_of before), append-nil (events_of before), first_of_empty (clocks_of before) time _ none) refl
-grows number before (arguments texts) none =
-    rw (begun_now before (arguments texts), more_clocks before (arguments texts), more_arguments before (arguments texts), more_events before (arguments texts), append-nil (clocks_of before), append-nil (events_of before), first_of_empty (arguments_of before) texts _ none) refl
-grows number before (events given) none =
-    rw (begun_now before (events given), more_clocks before (events given), more_arguments before (events given), more_events before (events given), append-nil (clocks_of before), append-nil (arguments_of before)) refl
+grows : (number : Version) (before : List Meaning) (m : Meaning) → gathering_fault (gathered number before) m ≡ None
+    → gathered number (before ++ m ∷ []) ≡ grown (gathered number before) m
+grows number before version none = rw (begun_now before version) (simp (flat_map-append, append-nil) refl)
+grows number before (clock time) none = grind (arith, common_steps, append-nil, begun_now, first_of_empty, flat_map-append)
+grows number before (arguments texts) none = grind (arith, common_steps, append-nil, begun_now, first_of_empty, flat_map-append)
+grows number before (events given) none = rw (begun_now before (events given)) (simp (flat_map-append, append-nil) refl)
 
 -- the lines that are left, after what the lines before them gave
 pub record Standing (text : List ℕ) (lines : LinesView) (so_far : GatheredView) : Type 0 where
@@ -67,8 +55,7 @@ taken : (number : Version) (at : ℕ) (before : List Meaning) (line : Line Meani
     → TakesLine (gathered number before) line (Ok answer) after
     → (next : List Meaning) × (after ≡ gathered number next) × (given (script_fault number) at before (line ∷ left) ≡ given (script_fault number) (at + 1) next left)
 taken number at before (Ok None) left answer after takes = (before, takes, refl)
-taken number at before (Ok (Some m)) left answer after takes =
-    (before ++ m ∷ [], takes.1 ∙ sym (grows number before m takes.0), rw takes.0 refl)
+taken number at before (Ok (Some m)) left answer after takes = grind (arith, common_steps, grows)
 taken number at before (Err kind) left answer after takes = absurd takes
 
 pub go_on : (text line : List ℕ) (lines next : LinesView) (so_far after : GatheredView) (answer : Unit {0}) → Standing text lines so_far → lines.left ≡ line ∷ next.left
@@ -84,18 +71,3 @@ go_on text line lines next so_far after answer standing cut counted size takes =
           ∙ ap (λ left. given (script_fault number) (lines.number + 1) standing.before (each_line (script_line_of number) left)) (sym cut) ∙ standing.rest;
       within = size ∙ standing.within;
     }
-
--- a line is refused
-refused : (number : Version) (at : ℕ) (before : List Meaning) (line : Line Meaning ScriptKind) (left : List (Line Meaning ScriptKind)) (stop : LineStop) (after : GatheredView)
-    → TakesLine (gathered number before) line (Err stop) after → ReadsScript (Err (at_line at stop)) (made (script_from number) (given (script_fault number) at before (line ∷ left)))
-refused number at before line left NoMemory after takes = tt
-refused number at before (Ok None) left (Faulty kind) after takes = absurd takes
-refused number at before (Ok (Some m)) left (Faulty kind) after takes = rw takes refl
-refused number at before (Err found) left (Faulty kind) after takes = rw takes refl
-
--- all lines are taken
-pub all_taken : (text : List ℕ) (lines : LinesView) (so_far : GatheredView) → Standing text lines so_far → lines.left ≡ [] → script_by (version_in (lines_of text)) (lines_of text) ≡ Ok (finished_script so_far)
-all_taken text lines so_far standing none =
-    let number = version_in (lines_of text) in
-    let all = ap (λ left. given (script_fault number) (lines.number + 1) standing.before (each_line (script_line_of number) left)) (sym none) ∙ standing.rest in
-    ap (made (script_from number)) (sym all) ∙ ap Ok (sym (rw standing.gathers refl))

@@ -1,5 +1,7 @@
 -- What version 1 reads, version 2 reads too.
-use Rattle.std.proofs.Common.{◌≡◌, ℕ, ◌+◌, ◌<◌, ◌≤◌, Bool, true, false, cond, ltb, List, [], ◌∷◌, ◌++◌, length, Option, Some, None, Result, Ok, Err, refl, sym, ap, ◌∙◌, arith, rules, tests}
+use Rattle.std.proofs.lemmas.Grind.{common_steps}
+use Rattle.std.proofs.Common.{◌≡◌, ℕ, ◌+◌, ◌<◌, ◌≤◌, Bool, true, false, cond, List, [], ◌∷◌, ◌++◌, length, Option, Some, None, Result, Ok, Err, refl}
+use Rattle.std.proofs.Common.{sym, ap, ◌∙◌, arith, rules, tests}
 use Rattle.std.specs.Prelude.{codes}
 use Rattle.std.specs.List.{All, AllByRecursion, find}
 use Rattle.std.specs.Option.{option_map, ok_or, IfSome}
@@ -10,18 +12,18 @@ use Rattle.uxn_limits.specs.declared.limits.TheConstants.{TEXT_LIMIT}
 use Rattle.text_lines.specs.declared.row.Counts.{Counts}
 use Rattle.text_lines.specs.declared.row.Counts.TheVariants.{Exactly, Between}
 use Rattle.text_lines.specs.declared.row.LineFault.{LineFault}
-use Rattle.text_lines.specs.declared.row.LineFault.TheVariants.{Missing, Extra}
-use Rattle.text_lines.specs.Lines.{is_newline, lines_of, words_of}
+use Rattle.text_lines.specs.Lines.{is_newline, words_of}
 use Rattle.text_lines.specs.Numbers.{begins_with}
 use Rattle.text_lines.specs.Reading.{Line, given, made, each_line}
-use Rattle.text_lines.specs.Rows.{keyword_row, are_too_few, are_too_many, counted, keyword_of, line_by}
+use Rattle.text_lines.specs.Rows.{keyword_row, counted, keyword_of, line_by}
 use Rattle.play_script.specs.declared.keyword.Keyword.{Keyword}
 use Rattle.play_script.specs.declared.keyword.Keyword.TheVariants as word
 use Rattle.play_script.specs.declared.script.ScriptKind.{ScriptKind}
 use Rattle.play_script.specs.declared.script.ScriptKind.TheVariants.{BadValue}
 use Rattle.play_script.specs.declared.script.Version.{Version}
 use Rattle.play_script.specs.declared.script.Version.TheVariants.{First, Second}
-use Rattle.play_script.specs.Rows.{Meaning, version, clock, arguments, events, script_meaning_of, events_of_line, device_of, version_of, clock_of_values, keys_of, buttons_of, script_kind_of, script_line_of, rows_of, first_rows, second_rows}
+use Rattle.play_script.specs.Rows.{Meaning, version, clock, arguments, events, script_meaning_of, events_of_line, device_of, version_of}
+use Rattle.play_script.specs.Rows.{clock_of_values, keys_of, buttons_of, script_kind_of, script_line_of, rows_of, first_rows, second_rows}
 use Rattle.play_script.specs.Scripts.{ScriptView, script_fault, script_from, script_of, version_in}
 use Rattle.play_script.specs.Values.{texts_of_values}
 use Rattle.play_script.proofs.Stepping.{script_by, short_script}
@@ -50,30 +52,20 @@ abbrev reads : Version → Option Row → List (List ℕ) → Line Meaning Scrip
 reads number found values = meant number (said_by (counted found (length values)) values)
 
 record Carries (row : Row) : Type 0 where
-  same : (values : List (List ℕ)) (m : Option Meaning) → reads First (Some row) values ≡ Ok m → reads Second (keyword_row second_rows row.0) values ≡ Ok m
+  same : (values : List (List ℕ)) (m : Option Meaning) → reads First (Some row) values ≡ Ok m
+      → reads Second (keyword_row second_rows row.0) values ≡ Ok m
 
-same_answer : (few many : Bool) (keyword : Keyword) (values : List (List ℕ)) → script_meaning_of keyword First values ≡ script_meaning_of keyword Second values
-    → meant First (said_by (cond few (Err Missing) (cond many (Err Extra) (Ok keyword))) values) ≡ meant Second (said_by (cond few (Err Missing) (cond many (Err Extra) (Ok keyword))) values)
-same_answer true many keyword values same = refl
-same_answer false true keyword values same = refl
-same_answer false false keyword values same = ap (λ m. made Some (ok_or m BadValue)) same
-
-same_row : (row : Row) → keyword_row second_rows row.0 ≡ Some row → ((values : List (List ℕ)) → script_meaning_of row.2 First values ≡ script_meaning_of row.2 Second values) → Carries row
-same_row row found equal = record {
-  same = λ values m is.
-      rw found (sym (same_answer (are_too_few row.1 (length values)) (are_too_many row.1 (length values)) row.2 values (equal values)) ∙ is);
-}
+same_row : (row : Row) → keyword_row second_rows row.0 ≡ Some row
+    → ((values : List (List ℕ)) → script_meaning_of row.2 First values ≡ script_meaning_of row.2 Second values) → Carries row
+same_row row found equal = grind (arith, common_steps)
 
 wide_line : (name : List ℕ) (keyword : Keyword) → keyword_row second_rows name ≡ Some (name, Between 1 2, keyword)
-    → ((b : List ℕ) → script_meaning_of keyword First (b ∷ []) ≡ script_meaning_of keyword Second (b ∷ [])) → (values : List (List ℕ)) (m : Option Meaning)
+    → ((b : List ℕ) → script_meaning_of keyword First (b ∷ []) ≡ script_meaning_of keyword Second (b ∷ []))
+    → (values : List (List ℕ)) (m : Option Meaning)
     → reads First (Some (name, Exactly 1, keyword)) values ≡ Ok m → reads Second (keyword_row second_rows name) values ≡ Ok m
 wide_line name keyword found equal [] m is = absurd (grind (arith, is))
 wide_line name keyword found equal (b ∷ []) m is = rw found (ap (λ m. made Some (ok_or m BadValue)) (sym (equal b)) ∙ is)
-wide_line name keyword found equal (b ∷ c ∷ more) m is =
-    let enough : ltb (length (b ∷ c ∷ more)) 1 ≡ false = grind arith in
-    let over : ltb 1 (length (b ∷ c ∷ more)) ≡ true = grind arith in
-    let no = rw (enough, over) at is in
-    absurd (grind (arith, no))
+wide_line name keyword found equal (b ∷ c ∷ more) m is = grind (arith, common_steps)
 
 wide_row : (name : List ℕ) (keyword : Keyword) → keyword_row second_rows name ≡ Some (name, Between 1 2, keyword)
     → ((b : List ℕ) → script_meaning_of keyword First (b ∷ []) ≡ script_meaning_of keyword Second (b ∷ [])) → Carries (name, Exactly 1, keyword)
@@ -141,25 +133,20 @@ lift (name ∷ values) m is = lift_if (begins_with 35 name) name values m is
 abbrev Carried : List (List ℕ) → Type 0
 Carried lines = (n k : ℕ) (before all : List Meaning) → given (script_fault First) n before (each_line (script_line_of First) lines) ≡ Ok all → given (script_fault Second) k (version ∷ before) (each_line (script_line_of Second) lines) ≡ Ok (version ∷ all)
 
-same_behind : (before : List Meaning) (m : Meaning) → IsNoVersion m → script_fault Second (version ∷ before) m ≡ script_fault First before m
-same_behind before version other = absurd other
-same_behind before (clock time) other = refl
-same_behind before (arguments texts) other = refl
-same_behind before (events more) other = refl
-
-carry_fault : (lines : List (List ℕ)) (n k : ℕ) (before all : List Meaning) (m : Meaning) (fault : Option ScriptKind) → script_fault First before m ≡ fault → IsNoVersion m → Carried lines
-    → given (script_fault First) n before (Ok (Some m) ∷ each_line (script_line_of First) lines) ≡ Ok all → given (script_fault Second) k (version ∷ before) (Ok (Some m) ∷ each_line (script_line_of Second) lines) ≡ Ok (version ∷ all)
-carry_fault lines n k before all m None is other rest fine =
-    rw (same_behind before m other, is) (rest (n + 1) (k + 1) (before ++ m ∷ []) all (rw is at fine))
+carry_fault : (lines : List (List ℕ)) (n k : ℕ) (before all : List Meaning) (m : Meaning) (fault : Option ScriptKind)
+    → script_fault First before m ≡ fault → IsNoVersion m → Carried lines
+    → given (script_fault First) n before (Ok (Some m) ∷ each_line (script_line_of First) lines) ≡ Ok all
+    → given (script_fault Second) k (version ∷ before) (Ok (Some m) ∷ each_line (script_line_of Second) lines) ≡ Ok (version ∷ all)
+carry_fault lines n k before all m None is other rest fine = grind (arith, common_steps)
 carry_fault lines n k before all m (Some kind) is other rest fine = absurd (let wrong = rw is at fine in grind (arith, wrong))
 
-carry_line : (lines : List (List ℕ)) (words : List (List ℕ)) (read : Line Meaning ScriptKind) → script_line_of First words ≡ read → Carried lines → (n k : ℕ) (before all : List Meaning)
-    → given (script_fault First) n before (read ∷ each_line (script_line_of First) lines) ≡ Ok all → given (script_fault Second) k (version ∷ before) (script_line_of Second words ∷ each_line (script_line_of Second) lines) ≡ Ok (version ∷ all)
+carry_line : (lines : List (List ℕ)) (words : List (List ℕ)) (read : Line Meaning ScriptKind) → script_line_of First words ≡ read → Carried lines
+    → (n k : ℕ) (before all : List Meaning)
+    → given (script_fault First) n before (read ∷ each_line (script_line_of First) lines) ≡ Ok all
+    → given (script_fault Second) k (version ∷ before) (script_line_of Second words ∷ each_line (script_line_of Second) lines) ≡ Ok (version ∷ all)
 carry_line lines words (Err kind) is rest n k before all fine = absurd (grind (arith, fine))
 carry_line lines words (Ok None) is rest n k before all fine = rw (lift words None is).0 (rest (n + 1) (k + 1) before all fine)
-carry_line lines words (Ok (Some m)) is rest n k before all fine =
-    let lifted = lift words (Some m) is in
-    rw lifted.0 (carry_fault lines n k before all m (script_fault First before m) refl lifted.1 rest fine)
+carry_line lines words (Ok (Some m)) is rest n k before all fine = grind (arith, common_steps, carry_fault, lift)
 
 carried : (lines : List (List ℕ)) → Carried lines
 carried [] = λ n k before all fine. let same : before ≡ all = grind (arith, fine) in rw same refl
@@ -187,9 +174,7 @@ behind_first lines Second is = rw first_line refl
 with_version : (lines : List (List ℕ)) (number : Version) (script : ScriptView) → number ≡ First → script_by number lines ≡ Ok script
     → script_by (version_in (codes "script 2" ∷ lines)) (codes "script 2" ∷ lines) ≡ Ok (record script { version = Second })
 with_version lines Second script first is = absurd (grind (arith, first))
-with_version lines First script first is =
-    let found = read_is First (given (script_fault First) 1 [] (each_line (script_line_of First) lines)) script is in
-    behind_first lines (version_in (codes "script 2" ∷ lines)) (tells lines) ∙ ap (made (script_from Second)) (carried lines 1 2 [] found.0 found.1) ∙ ap {A = ScriptView} (λ read. Ok (record read { version = Second })) (sym found.2)
+with_version lines First script first is = grind (arith, common_steps, behind_first, carried, read_is, tells)
 
 version_is : (number : Version) (answer : Result (List Meaning) (ℕ × ScriptKind)) (script : ScriptView) → made (script_from number) answer ≡ Ok script → number ≡ script.version
 version_is number answer script is = let found = read_is number answer script is in rw found.2 refl
@@ -201,10 +186,4 @@ pub second_reads_first : (text : List ℕ) (script : ScriptView) → length text
     → script_of (codes "script 2" ++ 10 ∷ text) ≡ Ok (record script { version = Second })
 unfolding script_of
 second_reads_first text script short is first =
-    let fits : ltb TEXT_LIMIT (length text) ≡ false = grind arith in
-    let all : ltb TEXT_LIMIT (length (codes "script 2" ++ 10 ∷ text)) ≡ false = grind arith in
-    let lines = rw fits at is in
-    let cut : lines_of (codes "script 2" ++ 10 ∷ text) ≡ codes "script 2" ∷ lines_of text = slice_split_at is_newline (codes "script 2") 10 text (no_newline 0 (omega arith)) refl in
-    short_script (version_in (lines_of (codes "script 2" ++ 10 ∷ text))) (codes "script 2" ++ 10 ∷ text) all
-    ∙ ap (λ lines. script_by (version_in lines) lines) cut
-    ∙ with_version (lines_of text) (version_in (lines_of text)) script (version_is (version_in (lines_of text)) _ script lines ∙ first) lines
+    grind (arith, common_steps, no_newline, script_by, short_script, slice_split_at, version_is, with_version)

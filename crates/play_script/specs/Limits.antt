@@ -3,10 +3,8 @@ use Rattle.std.specs.Prelude.{ℕ, ◌+◌, ◌<◌, ◌≤◌, ◌≡◌, ◌==
 use Rattle.std.specs.Prelude.{[], ◌∷◌, length, List}
 use Rattle.std.specs.List.{All, AllByRecursion, list_all, list_any, sum_by}
 use Rattle.uxn_limits.specs.declared.limits.TheConstants.{TEXT_LIMIT, MOST_EVENTS, LAST_SECOND, LAST_OFFSET}
-use Rattle.input_ports.specs.declared.Input.TheVariants.{DownOf, UpOf}
 use Rattle.play_script.specs.declared.script.Clock.{Clock}
 use Rattle.play_script.specs.declared.script.Event.{Event}
-use Rattle.play_script.specs.declared.script.Event.TheVariants.{Device, Expect}
 use Rattle.play_script.specs.declared.script.Version.{Version}
 use Rattle.play_script.specs.declared.script.Version.TheVariants.{First, Second}
 use Rattle.play_script.specs.declared.values.Value.{Value}
@@ -39,7 +37,7 @@ IsValue (Minutes minutes) = (neg_ℤ (pos LAST_OFFSET) ≤ℤ minutes) × (minut
 abbrev pub AreValues : List Value → Type 0
 AreValues values = AllByRecursion IsValue values
 
--- what only version 2 has: other players, and the comparison of ports
+-- it is version 2, which alone has other players and the comparison of ports
 abbrev pub IsSecond : Version → Type 0
 IsSecond First = ⊥
 IsSecond Second = Unit {0}
@@ -47,16 +45,15 @@ IsSecond Second = Unit {0}
 abbrev pub IsPlayer : Version → ℕ → Type 0
 IsPlayer number player = IsSecond number × (2 ≤ player) × (player ≤ 4)
 
-abbrev pub IsOf : Version → Event → Type 0
-IsOf number (Device (DownOf player mask)) = IsSecond number
-IsOf number (Device (UpOf player mask)) = IsSecond number
-IsOf number (Expect port byte) = IsSecond number
-IsOf number _ = Unit {0}
+-- what this version is the first to have, that one has too
+abbrev pub HasFrom : Version → Version → Type 0
+HasFrom First number = Unit {0}
+HasFrom Second number = IsSecond number
 
 -- an event that a line of this version gives
 pub record IsEvent (number : Version) (event : Event) : Type 0 where
-  pub within : AreValues (plain_event event).1
-  pub belongs : IsOf number event
+  pub within : AreValues (plain_event event).2
+  pub belongs : HasFrom (plain_event event).0 number
 
 -- seconds and minutes of a clock
 pub record IsTime (time : Clock) : Type 0 where

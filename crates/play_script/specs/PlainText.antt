@@ -35,25 +35,25 @@ value_word (Turn steps) = signed_decimal steps
 value_word (Seconds seconds) = signed_decimal seconds
 value_word (Minutes minutes) = signed_decimal minutes
 
--- the first word of an event's line, and the values behind it
-abbrev pub plain_event : Event → List ℕ × List Value
-plain_event (Input byte) = (codes "input", Byte byte ∷ [])
-plain_event EndInput = (codes "end", [])
-plain_event Frame = (codes "frame", [])
-plain_event (Device (Key byte)) = (codes "key", Byte byte ∷ [])
-plain_event (Device (Down mask)) = (codes "down", Button mask ∷ [])
-plain_event (Device (Up mask)) = (codes "up", Button mask ∷ [])
-plain_event (Device (Mouse x y)) = (codes "mouse", Pixel x ∷ Pixel y ∷ [])
-plain_event (Device (Press mask)) = (codes "press", MouseButton mask ∷ [])
-plain_event (Device (Release mask)) = (codes "release", MouseButton mask ∷ [])
-plain_event (Device (Scroll x y)) = (codes "scroll", Turn x ∷ Turn y ∷ [])
-plain_event (Device (DownOf player mask)) = (codes "down", Button mask ∷ Player player ∷ [])
-plain_event (Device (UpOf player mask)) = (codes "up", Button mask ∷ Player player ∷ [])
-plain_event Shot = (codes "shot", [])
-plain_event (Expect port byte) = (codes "expect", Byte port ∷ Byte byte ∷ [])
+-- of an event's line the first version that has it, its first word, and the values behind that
+abbrev pub plain_event : Event → Version × List ℕ × List Value
+plain_event (Input byte) = (First, codes "input", Byte byte ∷ [])
+plain_event EndInput = (First, codes "end", [])
+plain_event Frame = (First, codes "frame", [])
+plain_event (Device (Key byte)) = (First, codes "key", Byte byte ∷ [])
+plain_event (Device (Down mask)) = (First, codes "down", Button mask ∷ [])
+plain_event (Device (Up mask)) = (First, codes "up", Button mask ∷ [])
+plain_event (Device (Mouse x y)) = (First, codes "mouse", Pixel x ∷ Pixel y ∷ [])
+plain_event (Device (Press mask)) = (First, codes "press", MouseButton mask ∷ [])
+plain_event (Device (Release mask)) = (First, codes "release", MouseButton mask ∷ [])
+plain_event (Device (Scroll x y)) = (First, codes "scroll", Turn x ∷ Turn y ∷ [])
+plain_event (Device (DownOf player mask)) = (Second, codes "down", Button mask ∷ Player player ∷ [])
+plain_event (Device (UpOf player mask)) = (Second, codes "up", Button mask ∷ Player player ∷ [])
+plain_event Shot = (First, codes "shot", [])
+plain_event (Expect port byte) = (Second, codes "expect", Byte port ∷ Byte byte ∷ [])
 
 abbrev pub event_words : Event → List (List ℕ)
-event_words event = (plain_event event).0 ∷ map value_word (plain_event event).1
+event_words event = (plain_event event).1 ∷ map value_word (plain_event event).2
 
 abbrev pub version_words : Version → List (List (List ℕ))
 version_words First = []

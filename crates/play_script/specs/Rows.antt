@@ -114,11 +114,11 @@ script_meaning_of keyword number values = option_map events (events_of_line keyw
 -- the first words of version 1, with how many values each takes
 abbrev pub first_rows : Rows Keyword
 first_rows =
-    (codes "clock", Exactly 2, word.Clock)
+    (codes "frame", Between 0 1, word.Frame)
+    ∷ (codes "clock", Exactly 2, word.Clock)
     ∷ (codes "args", AtLeast 1, word.Args)
     ∷ (codes "input", AtLeast 1, word.Input)
     ∷ (codes "end", Exactly 0, word.End)
-    ∷ (codes "frame", Between 0 1, word.Frame)
     ∷ (codes "key", Exactly 1, word.Key)
     ∷ (codes "down", Exactly 1, word.Down)
     ∷ (codes "up", Exactly 1, word.Up)

@@ -30,18 +30,19 @@ pub(crate) enum Keyword {
 /// How many lines only version 2 has; three of them stand in place of one of version 1 behind them.
 const FURTHER: usize = 5;
 
-/// The lines of version 2, and behind the first five those of version 1.
+/// The lines of version 2, and behind the first five those of version 1. Most lines of a script are frames, so their row is
+/// the first of version 1.
 static ROWS: [Row<Keyword>; 18] = [
     Row("script", Counts::Exactly(1), Keyword::Script),
     Row("expect", Counts::Exactly(2), Keyword::Expect),
     Row("key", Counts::Between(1, 2), Keyword::Key),
     Row("down", Counts::Between(1, 2), Keyword::Down),
     Row("up", Counts::Between(1, 2), Keyword::Up),
+    Row("frame", Counts::Between(0, 1), Keyword::Frame),
     Row("clock", Counts::Exactly(2), Keyword::Clock),
     Row("args", Counts::AtLeast(1), Keyword::Args),
     Row("input", Counts::AtLeast(1), Keyword::Input),
     Row("end", Counts::Exactly(0), Keyword::End),
-    Row("frame", Counts::Between(0, 1), Keyword::Frame),
     Row("key", Counts::Exactly(1), Keyword::Key),
     Row("down", Counts::Exactly(1), Keyword::Down),
     Row("up", Counts::Exactly(1), Keyword::Up),

@@ -1,36 +1,23 @@
-use Rattle.std.proofs.Common.{◌≡◌, ◌≢◌, List, [], ◌++◌, refl, ap, sym, ◌∙◌, arith, rules}
+use Rattle.vector_loop.proofs.Common.{Bus, BusRepresents, Change, Core, DeviceState, Err, FollowsFrom, Instruction, List, Models, NoMemory, Nodes}
+use Rattle.vector_loop.proofs.Common.{Ok, Option, Page, Running, State, Stop, Trace, [], ap, arith, bus_rules, contents_on, followed_by}
+use Rattle.vector_loop.proofs.Common.{instruction, makes-none, page_in, refl, result_blame, rules, running, running_state, shown_all, stays, stored}
+use Rattle.vector_loop.proofs.Common.{sym, ◌++◌, ◌∙◌, ◌≡◌, ◌≢◌}
 use Rattle.std.proofs.lemmas.List.{append-nil}
 use Rattle.std.proofs.lemmas.List.FromFn.{get_or-map-range_with_len, length-map-range_with_len}
-use Rattle.std.specs.Prelude.{Option, Ok, Err}
-use Rattle.uxn_io_traits.specs.Files.{Nodes}
-use Rattle.uxn_io_traits.specs.Outside.{Change}
-use Rattle.uxn_io_traits.specs.ChangeLaws.{cut-here}
-use Rattle.uxn_opcodes.specs.declared.Core.{Core}
-use Rattle.uxn_opcodes.specs.declared.Stop.{Stop}
-use Rattle.uxn_opcodes.specs.declared.Stop.TheVariants.{NoMemory, TreeFault, SinkFault}
 use Rattle.uxn_opcodes.specs.declared.Turn.{Turn}
-use Rattle.uxn_opcodes.specs.declared.Turn.TheVariants.{Ran, Broke as Broken}
-use Rattle.uxn_opcodes.specs.Ports.{result_blame}
+use Rattle.uxn_opcodes.specs.declared.Turn.TheVariants.{Broke as Broken, Ran}
 use Rattle.uxn_opcodes.specs.Rule.{opcode_at}
-use Rattle.uxn_opcodes.specs.Instruction.{Instruction}
-use Rattle.varvara_bus.specs.declared.bus.Bus.{Bus}
-use Rattle.varvara_bus.specs.History.{stored}
-use Rattle.varvara_bus.specs.State.{DeviceState}
 use Rattle.varvara_bus.specs.ReadsPort.{read_of}
-use Rattle.varvara_bus.specs.Bus.{BusRepresents, ReadsPort, BusModel, Makes, StopsShort, outside_on, held_page, bus_rules, contents_on}
-use Rattle.varvara_bus.specs.InstructionLaws.{makes-none, makes-both, instruction-done}
-use Rattle.vector_loop.specs.State.{State, counting_instruction}
-use Rattle.vector_loop.specs.Trace.{Trace, stays, followed_by}
-use Rattle.vector_loop.specs.Vector.{instruction}
-use Rattle.vector_loop.specs.Watch.{Page, IsPage, page_in, ports_read, ports_stored, shown_all}
-use Rattle.vector_loop.specs.Follows.{Models, Running, running, running_state, Follows, FollowsFrom}
-use Rattle.vector_loop.proofs.Traces.{shown_all-append, changes-append}
+use Rattle.varvara_bus.specs.Bus.{BusModel, Makes, ReadsPort, StopsShort, held_page}
+use Rattle.varvara_bus.specs.InstructionLaws.{instruction-done, makes-both}
+use Rattle.vector_loop.specs.State.{counting_instruction}
+use Rattle.vector_loop.specs.Watch.{IsPage, ports_read, ports_stored}
+use Rattle.vector_loop.specs.Follows.{Follows}
+use Rattle.vector_loop.proofs.Traces.{changes-append, shown_all-append}
 
 -- who is to blame for a stop, whatever would have been answered
 pub blame-same : (X Y : Type 0) (stop : Stop) → result_blame {T = X} (Err stop) ≡ result_blame {T = Y} (Err stop)
-blame-same X Y NoMemory = refl
-blame-same X Y TreeFault = refl
-blame-same X Y SinkFault = refl
+blame-same = search (arith, rules)
 
 -- what the ports of a bus read, and what was last stored in them
 pub is_page : {T O E : Type 0} (contents_of_tree : T → Option Nodes) (bus : Bus T O E) (state : State)
@@ -52,10 +39,7 @@ module _ {T O E : Type 0} (meaning : BusModel T O E) where
   -- when out of memory to the watcher all was made so far, and nothing of what is to come
   pub stops-here : (before now : Bus T O E) (first more : List Change) → Makes meaning before now first
       → StopsShort meaning before now NoMemory (first ++ more)
-  stops-here before now first more makes = record {
-    cut = cut-here (outside_on meaning before).world (outside_on meaning now).world first more makes.world;
-    not_guaranteed = tt;
-  }
+  stops-here = search (arith, rules)
 
 module _ {T O E W H : Type 0} (models : Models T O E W H) where
   -- nothing is done yet
@@ -66,8 +50,7 @@ module _ {T O E W H : Type 0} (models : Models T O E W H) where
   -- the state that was reached is that of the machine
   pub reached : (before middle : Running T O E W) (first : Trace) → Follows models before middle first
       → running_state middle first.last.devices ≡ first.last
-  reached before middle first follows = ap (λ core. record { core = core; devices = first.last.devices; tally = middle.tally }) follows.core
-      ∙ ap (λ tally. record { core = first.last.core; devices = first.last.devices; tally = tally }) follows.tally
+  reached = search (arith, rules)
 
   -- a part, and then another
   pub follows-on : (before middle now : Running T O E W) (first second : Trace) → Follows models before middle first

@@ -1,33 +1,25 @@
 -- What a runner answers for parts of a run, one after the other, whether they were done or stopped.
-use Rattle.std.proofs.Common.{◌≡◌, ℕ, ◌+◌, ◌≤◌, ◌⊎◌, Bool, true, false, cond, List, refl, ap, subst, ◌∙◌, arith, rules}
-use Rattle.std.specs.Prelude.{Option, Some, None, IfSome, Result, Ok, Err}
+use Rattle.vector_loop.proofs.Common.{Answers, Bus, BusRepresents, Count, DeviceState, Err, FollowsFrom, HasTallyRoom, IsOutside, Ledger, List}
+use Rattle.vector_loop.proofs.Common.{MadeOrCut, Models, Nodes, None, Ok, Option, Result, Runner, Running, SameBus, SameRunner, State, Stop}
+use Rattle.vector_loop.proofs.Common.{Trace, ap, appended_to, arith, bus_faults, cond, contents_on, false, followed_by, ledger-same, ledger-then}
+use Rattle.vector_loop.proofs.Common.{makes, none, result_blame, rules, running_state, stays, true, unless_over, ℕ, ◌+◌, ◌∙◌, ◌≡◌, ◌≤◌}
+use Rattle.std.proofs.Common.{Bool, subst, ◌⊎◌}
+use Rattle.std.specs.Prelude.{IfSome}
 use Rattle.std.specs.Result.{result_and}
-use Rattle.uxn_io_traits.specs.Files.{Nodes}
-use Rattle.uxn_io_traits.specs.Faults.{Ledger}
 use Rattle.uxn_io_traits.specs.State.{TreeState}
 use Rattle.uxn_io_traits.specs.Ended.{RefusesNone}
 use Rattle.uxn_io_traits.specs.EndedLaws.{refuses-nothing, refuses-then}
-use Rattle.uxn_io_traits.specs.declared.trees.Tree as trees
-use Rattle.uxn_opcodes.specs.declared.Stop.{Stop}
-use Rattle.uxn_opcodes.specs.Ports.{result_blame}
-use Rattle.varvara_bus.specs.declared.bus.Bus.{Bus}
-use Rattle.varvara_bus.specs.State.{DeviceState}
-use Rattle.uxn_io_traits.specs.FaultLaws.{ledger-same, ledger-kept, ledger-then}
-use Rattle.varvara_bus.specs.Bus.{SameBorrowed, SameBus, FilesStay, HasRoot, IsOutside, ChangesDevices, BusRepresents, bus_faults, frames_begun}
-use Rattle.varvara_bus.specs.Bus.{contents_on}
-use Rattle.vector_loop.specs.declared.runner.Runner.{Runner}
-use Rattle.vector_loop.specs.State.{State, is_over}
-use Rattle.vector_loop.specs.Trace.{Trace, stays, makes, followed_by}
-use Rattle.vector_loop.specs.Event.{unless_over}
-use Rattle.vector_loop.specs.Outputs.{IsOutput, appended_to}
-use Rattle.vector_loop.specs.Making.{MadeOrCut}
+use Rattle.varvara_bus.specs.Bus.{ChangesDevices, FilesStay, HasRoot, SameBorrowed, frames_begun}
+use Rattle.vector_loop.specs.State.{is_over}
+use Rattle.vector_loop.specs.Outputs.{IsOutput}
 use Rattle.vector_loop.specs.Watch.{MayRefuse}
-use Rattle.vector_loop.specs.Follows.{Models, Running, running_state, FollowsFrom, HasGrown}
-use Rattle.vector_loop.specs.Answers.{Count, none, both_counts, HasTallyRoom, running_of, SameRunner, ReachesResult, Answers}
-use Rattle.vector_loop.proofs.Along.{blame-same, follows-nothing, follows-both}
-use Rattle.vector_loop.proofs.Stopping.{stopped-first, stopped-later, stopped-append}
+use Rattle.vector_loop.specs.Follows.{HasGrown}
+use Rattle.vector_loop.specs.Answers.{ReachesResult, both_counts, running_of}
+use Rattle.vector_loop.proofs.Along.{blame-same, follows-both, follows-nothing}
+use Rattle.vector_loop.proofs.Stopping.{stopped-append, stopped-first, stopped-later}
 use Rattle.vector_loop.proofs.Counting.{grown-both, grown-none, grown-within, room-left}
-use Rattle.vector_loop.proofs.Makings.{makes-nothing, files-kept, refuses-kept, same_faults, no-memory, the-stop}
+use Rattle.vector_loop.proofs.Makings.{no-memory, the-stop}
+use Rattle.uxn_io_traits.specs.declared.trees.Tree as trees
 
 -- where the run is over nothing more is done, and else all
 over : (rest : State → Trace) (state : State) → is_over state ≡ true → unless_over rest state ≡ stays state
@@ -41,8 +33,7 @@ not-over rest state is = ap (λ b. cond b (stays state) (rest state)) is
 -- an output that is there lies outside the root part
 output-outside : (output : Option (List ℕ)) (root : Option (List ℕ)) (contents : Option Nodes) → IfSome output (IsOutput root contents)
     → IfSome output (IsOutside root)
-output-outside None root contents there = tt
-output-outside (Some path) root contents there = there.outside
+output-outside = search (arith, rules)
 
 -- what stays in one part of a run, and then in another
 files-both : (root root_then : Option (List ℕ)) (a b c : Option Nodes) → root_then ≡ root → FilesStay root a b → FilesStay root_then b c
@@ -126,9 +117,7 @@ module _ {T O E W H : Type 0} (models : Models T O E W H) where
   -- another value where it was done
   pub answers-and : {X Y : Type 0} (a b : Runner T O E W) (part : State → Trace) (m : Count) (r : Result X Stop) (y : Y)
       → Answers models a b part m r → Answers models a b part m (result_and r (Ok y))
-  answers-and a b part m (Ok x) y p = answers-but a b part part m (Ok x) (Ok y) p.reaches refl p
-  answers-and {X = X} {Y = Y} a b part m (Err stop) y p =
-      answers-but {X = X} {Y = Y} a b part part m (Err stop) (Err stop) p.reaches (blame-same Y X stop) p
+  answers-and = search (arith, rules)
 
   -- the same under another name, in the states that the bus represented
   pub answers-where : {X : Type 0} (a b : Runner T O E W) (part other : State → Trace) (m : Count) (r : Result X Stop)
@@ -169,8 +158,7 @@ module _ {T O E W H : Type 0} (models : Models T O E W H) where
       → ((devices : DeviceState) → BusRepresents (contents_on models.meaning.tree) a.bus.now devices
       → running_state (running_of b) (prepare (running_state (running_of a) devices)).devices ≡ prepare (running_state (running_of a) devices))
       → Answers models a b (λ s. stays (prepare s)) m (Ok x)
-  answers-change a b prepare m x others_same bus others frames grown devices_now state_now = search
-      (arith, rules, makes-nothing, ledger-kept, same_faults, files-kept, refuses-kept)
+  answers-change = search (arith, rules)
 
   -- what the devices represent changes, and nothing else, and then a part is done
   pub answers-stored : {X : Type 0} (a b c : Runner T O E W) (change : DeviceState → DeviceState) (part : State → Trace) (m : Count)
@@ -190,21 +178,7 @@ module _ {T O E W H : Type 0} (models : Models T O E W H) where
       → IfSome output (IsOutside a.bus.now.devices.now.root) → b.core.now ≡ a.core.now → b.tally ≡ a.tally → b.watcher.now ≡ a.watcher.now
       → MadeOrCut models.meaning a.bus.now b.bus.now (λ s. appended_to output (bytes s)) r
       → ReachesResult models (running_of a) (running_of b) (λ s. makes (appended_to output (bytes s.devices)) s) r
-  reaches-made a b output bytes (Ok x) outside core tally watcher made = record {
-    from = λ devices stands. record {
-      core = core;
-      devices = made.stands devices stands;
-      tally = tally;
-      makes = let done = made.made devices stands in record { world = done.world; remains = done.remains };
-      changes = tt;
-      watcher = ap models.held watcher;
-    };
-  }
-  reaches-made a b output bytes (Err stop) outside core tally watcher cut = record {
-    within = stopped-append models (running_of a) (running_of b) stop output bytes outside core tally watcher
-        cut;
-    memory = λ wanted. absurd (no-memory stop (the-stop (Err stop) stop refl cut.fault) wanted);
-  }
+  reaches-made = search (arith, rules, no-memory, stopped-append, the-stop)
 
   pub answers-made : (a b : Runner T O E W) (output : Option (List ℕ)) (bytes : DeviceState → List ℕ) (r : Result (Unit {0}) Stop)
       → IfSome output (IsOutput a.bus.now.devices.now.root ((contents_on models.meaning.tree) a.bus.now.tree.now)) → record a { bus = b.bus } ≡ b

@@ -1,17 +1,11 @@
 -- How far a tally grows, and how much room is left in it.
-use Rattle.std.proofs.Common.{ℕ, ◌+◌, ◌*◌, ◌^◌, ◌<◌, ◌≤◌, arith}
+use Rattle.vector_loop.proofs.Common.{Count, Event, HasTallyRoom, Result, Stop, Tally, arith, counting_event, ℕ, ◌*◌, ◌+◌, ◌<◌, ◌≤◌, rules}
+use Rattle.std.proofs.Common.{◌^◌}
 use Rattle.std.proofs.Math.Nat.{mul-le-mul_right}
-use Rattle.std.specs.Prelude.{Result, Ok, Err}
-use Rattle.uxn_opcodes.specs.declared.Stop.{Stop}
-use Rattle.play_script.specs.declared.script.Event.{Event}
-use Rattle.play_script.specs.declared.script.Event.TheVariants.{Input, EndInput, Frame, Device, Shot, Expect}
-use Rattle.vector_loop.specs.declared.tally.Tally.{Tally}
 use Rattle.vector_loop.specs.declared.tally.VectorEnd.{VectorEnd}
-use Rattle.vector_loop.specs.declared.tally.VectorEnd.TheVariants.{Broke, Cut}
 use Rattle.vector_loop.specs.Budget.{counting_ran}
-use Rattle.vector_loop.specs.State.{new_tally, counting_event}
+use Rattle.vector_loop.specs.State.{new_tally}
 use Rattle.vector_loop.specs.Follows.{HasGrown, IsCompared}
-use Rattle.vector_loop.specs.Answers.{Count, HasTallyRoom}
 
 pub grown-both : (a b c : Tally) (b1 g1 b2 g2 budget : ℕ) → HasGrown a b b1 g1 budget → HasGrown b c b2 g2 budget
     → HasGrown a c (b1 + b2) (g1 + g2) budget
@@ -36,23 +30,15 @@ room-left a b m n whole budget p q r h =
 -- a script's vectors and events can be counted from nothing
 pub room-new : (most : Count) (budget : ℕ) → 1 ≤ budget → most.vectors ≤ 9194305 → most.events ≤ 1000000 → budget < 2 ^ 32
     → HasTallyRoom new_tally budget most
-room-new most budget some p q r =
-    let product : most.vectors * budget ≤ 9194305 * budget = mul-le-mul_right budget p in search arith
+room-new = search (arith, rules)
 
 -- a vector was run, whatever ended it
 pub grown-run : (a : Tally) (end : Result VectorEnd Stop) (number budget : ℕ) → number ≤ budget → HasGrown a (counting_ran end number a) 1 0 budget
-grown-run a (Ok Broke) number budget most = search arith
-grown-run a (Ok Cut) number budget most = search arith
-grown-run a (Err stop) number budget most = search arith
+grown-run = search (arith, rules)
 
 -- an event is counted
 pub grown-counted : (event : Event) (a : Tally) (budget : ℕ) → HasGrown a (counting_event event a) 0 1 budget
-grown-counted (Input byte) a budget = search arith
-grown-counted EndInput a budget = search arith
-grown-counted (Device input) a budget = search arith
-grown-counted Frame a budget = search arith
-grown-counted Shot a budget = search arith
-grown-counted (Expect port byte) a budget = search arith
+grown-counted = search (arith, rules)
 
 -- an expect is counted, and compared
 pub grown-compared : (a b : Tally) (budget : ℕ) → IsCompared (record a { events = a.events + 1 }) b → HasGrown a b 0 1 budget

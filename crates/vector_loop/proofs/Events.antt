@@ -1,27 +1,19 @@
 -- What the events of a run answer.
-use Rattle.std.proofs.Common.{◌≡◌, ◌≢◌, ℕ, ◌<◌, ◌≤◌, lit<, cond, ap, sym, ◌∙◌, arith, rules}
-use Rattle.std.specs.Prelude.{Result, Ok, ◌==◌}
+use Rattle.vector_loop.proofs.Common.{Answers, Count, Event, Models, Ok, Outputs, Result, Runner, State, Stop, Trace, ap, arith}
+use Rattle.vector_loop.proofs.Common.{counting_event, ledger-same, of_events, of_vectors, rules, stays, stored, sym, unless_over, vector, vector_in}
+use Rattle.vector_loop.proofs.Common.{with_stored, ℕ, ◌<◌, ◌∙◌, ◌≡◌, ◌≢◌, ◌≤◌}
+use Rattle.std.specs.Prelude.{◌==◌}
 use Rattle.input_ports.specs.declared.Input.{Input}
-use Rattle.input_ports.specs.declared.Input.TheVariants.{Key, Down, Up, Mouse, Press, Release, Scroll, DownOf, UpOf}
-use Rattle.input_ports.specs.Page.{stores_of, stores_after, vector_of}
-use Rattle.uxn_opcodes.specs.declared.Stop.{Stop}
-use Rattle.varvara_bus.specs.History.{stored, stored_short}
+use Rattle.input_ports.specs.Page.{stores_after, stores_of, vector_of}
+use Rattle.varvara_bus.specs.History.{stored_short}
 use Rattle.varvara_bus.specs.ReadsPort.{read_of}
-use Rattle.play_script.specs.declared.script.Event.{Event}
 use Rattle.play_script.specs.declared.script.Event.TheVariants.{Expect}
-use Rattle.vector_loop.specs.declared.output.Outputs.{Outputs}
-use Rattle.vector_loop.specs.declared.runner.Runner.{Runner}
-use Rattle.vector_loop.specs.State.{State, with_stored, with_counted, counting_event, counting_expect}
-use Rattle.vector_loop.specs.Trace.{Trace, stays}
-use Rattle.vector_loop.specs.Vector.{vector}
-use Rattle.vector_loop.specs.Follows.{Models}
-use Rattle.vector_loop.specs.Event.{vector_at, vector_in, unless_over, happens, give}
-use Rattle.vector_loop.specs.Answers.{Count, both_counts, of_vectors, of_events, Answers}
-use Rattle.vector_loop.proofs.Traces.{is_not_zero}
+use Rattle.vector_loop.specs.State.{counting_expect, with_counted}
+use Rattle.vector_loop.specs.Event.{give, happens, vector_at}
+use Rattle.vector_loop.specs.Answers.{both_counts}
 use Rattle.vector_loop.proofs.Counting.{grown-counted}
-use Rattle.uxn_io_traits.specs.FaultLaws.{ledger-same}
 use Rattle.vector_loop.proofs.Makings.{makes-nothing}
-use Rattle.vector_loop.proofs.Answering.{same-itself, answers-then, answers-within}
+use Rattle.vector_loop.proofs.Answering.{answers-then, answers-within, same-itself}
 
 -- the vector in two ports, by the address there
 pub no-vector : (budget port address : ℕ) (state : State) → address ≡ stored_short state.devices.history port → address ≡ 0
@@ -32,21 +24,12 @@ no-vector budget port address state is zero = ap (λ a. vector_at budget a state
 pub its-vector : (budget port address : ℕ) (state : State) → address ≡ stored_short state.devices.history port → address ≢ 0
     → vector_in budget port state ≡ vector budget address state
 unfolding vector_in
-its-vector budget port address state is some =
-    ap (λ a. vector_at budget a state) (sym is) ∙ ap (λ b. cond b (stays state) (vector budget address state)) (is_not_zero address some)
+its-vector = search (arith, rules)
 
 -- every input's vector is in two ports
 pub its-ports : (input : Input) → vector_of input < 255
 unfolding vector_of
-its-ports (Key byte) = lit< tt
-its-ports (Down mask) = lit< tt
-its-ports (Up mask) = lit< tt
-its-ports (Mouse x y) = lit< tt
-its-ports (Press mask) = lit< tt
-its-ports (Release mask) = lit< tt
-its-ports (Scroll x y) = lit< tt
-its-ports (DownOf player mask) = lit< tt
-its-ports (UpOf player mask) = lit< tt
+its-ports = search (arith, rules)
 
 -- an input is stored, its vector is run, and it is settled
 abbrev pub applying : Input → State → State

@@ -1,3 +1,4 @@
+pub mod Common
 pub mod Traces
 pub mod Along
 pub mod Stopping

@@ -1,37 +1,23 @@
 -- What a run makes outside by itself: pictures and samples, piece by piece.
-use Rattle.std.proofs.Common.{◌≡◌, ◌≢◌, ℕ, suc, ◌+◌, ◌-◌, ◌<◌, ◌≤◌, List, [], ◌∷◌, ◌++◌, length, map, take, drop, refl, ap, sym, ◌∙◌, arith, rules}
-use Rattle.std.proofs.Common.{length-append, length-drop}
-use Rattle.std.proofs.Math.Seq.{take-append_seam}
+use Rattle.std.proofs.lemmas.Grind.{common_steps}
+use Rattle.vector_loop.proofs.Common.{Bus, BusRepresents, Change, DeviceState, Err, IsOutside, Ledger, List, MadeOrCut, NoMemory, Nodes, Ok, Option}
+use Rattle.vector_loop.proofs.Common.{Result, SameBus, Stop, [], ap, arith, bus_faults, contents_on, drop, flat_map, ledger-same, ledger-then}
+use Rattle.vector_loop.proofs.Common.{length, map, picture_bytes, picture_row_of, range_with_len, refl, result_blame, rules}
+use Rattle.vector_loop.proofs.Common.{same-again, take, ℕ, ◌++◌, ◌+◌, ◌-◌, ◌<◌, ◌∙◌, ◌∷◌, ◌≡◌, ◌≢◌, ◌≤◌}
 use Rattle.std.proofs.lemmas.List.{map-append}
-use Rattle.std.proofs.lemmas.List.Concat.{flat_map-cons}
-use Rattle.std.specs.Prelude.{Option, Result, Ok, Err, OnOk, OnErr}
-use Rattle.std.specs.List.{flat_map, range_with_len}
-use Rattle.uxn_io_traits.specs.Ended.{RefusesNone}
-use Rattle.uxn_io_traits.specs.EndedLaws.{refuses-nothing}
-use Rattle.uxn_io_traits.specs.declared.trees.Tree as trees
-use Rattle.uxn_io_traits.specs.Ended.{Ended, Done}
-use Rattle.uxn_io_traits.specs.EndedLaws.{done-nothing, ended-then, ended-first}
+use Rattle.std.specs.Prelude.{OnErr, OnOk}
+use Rattle.uxn_io_traits.specs.Ended.{Done, Ended, RefusesNone}
+use Rattle.uxn_io_traits.specs.EndedLaws.{done-nothing, ended-first, ended-then, refuses-nothing}
 use Rattle.uxn_io_traits.specs.State.{Outside}
-use Rattle.uxn_io_traits.specs.Faults.{Ledger}
-use Rattle.uxn_io_traits.specs.Outside.{Change, ToFile}
-use Rattle.uxn_io_traits.specs.Files.{Nodes}
-use Rattle.uxn_opcodes.specs.declared.Stop.{Stop}
-use Rattle.uxn_opcodes.specs.declared.Stop.TheVariants.{NoMemory, TreeFault}
-use Rattle.uxn_opcodes.specs.Ports.{result_blame}
+use Rattle.uxn_io_traits.specs.Outside.{ToFile}
+use Rattle.uxn_opcodes.specs.declared.Stop.TheVariants.{TreeFault}
 use Rattle.screen_frame.specs.Colours.{colours_of}
 use Rattle.screen_frame.specs.Ppm.{head_bytes}
-use Rattle.screen_layers.specs.Pictures.{picture_row_of}
-use Rattle.varvara_bus.specs.declared.bus.Bus.{Bus}
 use Rattle.varvara_bus.specs.History.{colour_bytes}
-use Rattle.varvara_bus.specs.State.{DeviceState}
-use Rattle.varvara_bus.specs.Bus.{ChangesDevices, FilesStay, IsOutside, BusRepresents, BusModel, Makes, bus_faults, blame_for, SameBus, outside_on}
-use Rattle.varvara_bus.specs.Bus.{contents_on}
+use Rattle.varvara_bus.specs.Bus.{BusModel, ChangesDevices, FilesStay, Makes, blame_for, outside_on}
 use Rattle.varvara_bus.specs.FileActs.{piece_appended}
-use Rattle.varvara_bus.specs.Laws.{appended-outside}
-use Rattle.uxn_io_traits.specs.FaultLaws.{ledger-same, ledger-then}
-use Rattle.varvara_bus.specs.InstructionLaws.{same-itself, same-again}
-use Rattle.vector_loop.specs.Making.{MadeOrCut}
-use Rattle.vector_loop.specs.Outputs.{picture_bytes}
+use Rattle.varvara_bus.specs.InstructionLaws.{same-itself}
+use Rattle.uxn_io_traits.specs.declared.trees.Tree as trees
 
 -- a fault of the tree is no running out of memory
 pub no-memory : (stop : Stop) → stop ≡ TreeFault → stop ≡ NoMemory → ⊥
@@ -47,11 +33,7 @@ to_file path bytes = map (λ byte. ToFile path byte) bytes
 -- the prefix of a row that was put into a buffer
 pub row-taken : (row before now : List ℕ) (count : ℕ) → now ≡ row ++ drop count before → length now ≡ length before → count ≤ length before
     → take count now ≡ row
-row-taken row before now count is size within =
-    let whole : length now ≡ length row + (length before - count) = ap length is ∙ length-append row (drop count before)
-    ∙ ap (λ n. length row + n) (length-drop count before) in
-    let same : length row ≡ count = omega (arith, whole, size, within) in
-    ap (take count) is ∙ ap (λ n. take n (row ++ drop count before)) (sym same) ∙ take-append_seam row (drop count before)
+row-taken = grind (arith, common_steps)
 
 -- the picture file by what was read of the screen
 pub picture-parts : (state : DeviceState) (width height : ℕ) (colours : List (List ℕ)) (head : List ℕ) → width ≡ state.picture.width
@@ -59,16 +41,12 @@ pub picture-parts : (state : DeviceState) (width height : ℕ) (colours : List (
     → colours ≡ colours_of (colour_bytes state.history) → head ≡ head_bytes width height
     → picture_bytes state ≡ head ++ flat_map (picture_row_of colours state.picture) (range_with_len 0 (height - 0))
 unfolding picture_bytes
-picture-parts state width height colours head ew eh ec is =
-    let whole : height - 0 ≡ height = omega arith in
-    rw (whole, is, ew, eh, ec) refl
+picture-parts = search (arith, rules)
 
 -- the rows from one on
 pub rows-next : (row : ℕ → List ℕ) (y height : ℕ) → y < height
     → flat_map row (range_with_len y (height - y)) ≡ row y ++ flat_map row (range_with_len (y + 1) (height - (y + 1)))
-rows-next row y height within =
-    let left : height - y ≡ suc (height - (y + 1)) = omega (arith, within) in
-    ap (λ n. flat_map row (range_with_len y n)) left ∙ flat_map-cons row y (range_with_len (y + 1) (height - (y + 1)))
+rows-next = search (arith, rules)
 
 -- where the tree is as it was each file is there still
 pub files-kept : {T O E : Type 0} (contents_of_tree : T → Option Nodes) (before now : Bus T O E) → ChangesDevices before now
@@ -88,9 +66,7 @@ pub appended-still : {T O E : Type 0} (contents_of_tree : T → Option Nodes) (a
     → IsOutside a.devices.now.root path
     → OnOk r ((s : DeviceState) → BusRepresents contents_of_tree a s → BusRepresents contents_of_tree b (piece_appended path piece s))
     → OnOk r ((s : DeviceState) → BusRepresents contents_of_tree a s → BusRepresents contents_of_tree b s)
-appended-still contents_of_tree a b path piece (Ok x) outside stands = λ s stood.
-    rw (appended-outside path piece s (rw stood.devices.root at outside)) at (stands s stood)
-appended-still contents_of_tree a b path piece (Err stop) outside stands = tt
+appended-still = search (arith, rules)
 
 -- nothing is made of two parts only where nothing is of each
 none-of : {A : Type 0} (first more : List A) → first ++ more ≡ [] → (first ≡ []) × (more ≡ [])
@@ -99,8 +75,7 @@ none-of (x ∷ first) more none = cc
 
 -- a byte makes a change
 some-put : (path bytes : List ℕ) → 0 < length bytes → to_file path bytes ≢ []
-some-put path [] some none = omega (arith, some)
-some-put path (byte ∷ bytes) some none = cc
+some-put = grind (arith, common_steps)
 
 module _ {T O E : Type 0} (meaning : BusModel T O E) where
   -- where nothing but what the devices represent changes nothing is made
@@ -113,8 +88,7 @@ module _ {T O E : Type 0} (meaning : BusModel T O E) where
   -- what the bus answered for a piece, with the stop that it names
   ended-ledger : (changes : List Change) (r : Result (Unit {0}) Stop) (before now : Outside) → Ended changes (blame_for r) before now
       → Ledger before.faults now.faults (result_blame r)
-  ended-ledger changes (Ok x) before now done = done.ledger
-  ended-ledger changes (Err stop) before now short = short.ledger
+  ended-ledger = search (arith, rules)
 
   pub appended : (a b : Bus T O E) (path bytes : List ℕ) (r : Result (Unit {0}) Stop)
       → Ended (to_file path bytes) (blame_for r) (outside_on meaning a) (outside_on meaning b)
@@ -142,16 +116,7 @@ module _ {T O E : Type 0} (meaning : BusModel T O E) where
   -- not all of them, whatever would follow
   pub made-first : (a b : Bus T O E) (first more : DeviceState → List Change) (stop : Stop) → MadeOrCut meaning a b first (Err stop)
       → MadeOrCut meaning a b (λ s. first s ++ more s) (Err stop)
-  made-first a b first more stop p = record {
-    made = λ s stands. ended-first (first s) (more s) _ _ _ (p.made s stands);
-    stands = tt;
-    devices = p.devices;
-    height = p.height;
-    fault = p.fault;
-    some = λ s stands none. p.some s stands (none-of (first s) (more s) none).0;
-    ledger = p.ledger;
-    same = p.same;
-  }
+  made-first = grind (arith, common_steps, ended-first, none-of)
 
   -- whatever the rest of the bytes for a file answers, the whole does
   abbrev pub Putting : Bus T O E → Bus T O E → List ℕ → (DeviceState → List ℕ) → (DeviceState → List ℕ) → Type 0

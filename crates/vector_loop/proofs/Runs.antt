@@ -1,19 +1,11 @@
 -- The run of a script, and its end.
-use Rattle.std.proofs.Common.{◌≡◌, inl, inr, refl, ap, sym, ◌∙◌}
-use Rattle.std.specs.Prelude.{Ok, Err}
-use Rattle.uxn_opcodes.specs.declared.Core.{Core}
-use Rattle.uxn_opcodes.specs.declared.Stop.{Stop}
-use Rattle.uxn_opcodes.specs.declared.Stop.TheVariants.{NoMemory}
-use Rattle.varvara_bus.specs.declared.bus.Bus.{Bus}
-use Rattle.varvara_bus.specs.Bus.{ReadsPort, held_page, contents_on}
-use Rattle.vector_loop.specs.State.{State}
-use Rattle.vector_loop.specs.Trace.{Trace}
-use Rattle.vector_loop.specs.Watch.{Page, IsPage, page_in, moment_of, shown_all}
-use Rattle.vector_loop.specs.Follows.{Models, Running, running, running_state, FollowsFrom, FallsShortFrom, EndsFrom}
+use Rattle.vector_loop.proofs.Common.{Answers, Bus, Core, Count, Err, FollowsFrom, Models, NoMemory, Ok, Page, Runner, Running, State, Stop, Tally}
+use Rattle.vector_loop.proofs.Common.{Trace, ap, contents_on, inr, page_in, refl, running, running_state, shown_all, sym, ◌∙◌, ◌≡◌, arith, rules}
+use Rattle.varvara_bus.specs.Bus.{ReadsPort, held_page}
+use Rattle.vector_loop.specs.Watch.{IsPage, moment_of}
+use Rattle.vector_loop.specs.Follows.{EndsFrom, FallsShortFrom}
 use Rattle.vector_loop.specs.Stops.{RunStops}
-use Rattle.vector_loop.specs.declared.runner.Runner.{Runner}
-use Rattle.vector_loop.specs.declared.tally.Tally.{Tally}
-use Rattle.vector_loop.specs.Answers.{Count, running_of, moment_in, Answers}
+use Rattle.vector_loop.specs.Answers.{moment_in, running_of}
 use Rattle.vector_loop.proofs.Along.{is_page, reached}
 use Rattle.vector_loop.proofs.Stopping.{run-short}
 
@@ -57,18 +49,13 @@ module _ {T O E W H : Type 0} (models : Models T O E W H) where
   pub run-stopped : {X : Type 0} (a b : Runner T O E W) (core : Core) (bus : Bus T O E) (watcher : W) (part : State → Trace) (m : Count) (stop : Stop)
       → core ≡ b.core.now → bus ≡ b.bus.now → watcher ≡ b.watcher.now → Answers models {X = X} a b part m (Err stop)
       → RunStops models (running_of a) core bus watcher stop part
-  run-stopped a b core bus watcher part m stop is_core is_bus is_watcher answers = record {
-    tally = b.tally;
-    stops = inl (rw (is_core, is_bus, is_watcher) answers.reaches.within);
-  }
+  run-stopped = search (arith, rules)
 
   pub run-fell : {X : Type 0} (a b : Runner T O E W) (core : Core) (bus : Bus T O E) (tally : Tally) (watcher : W) (part : State → Trace) (m : Count)
       (stop : Stop)
       → core ≡ b.core.now → bus ≡ b.bus.now → watcher ≡ b.watcher.now → Answers models {X = X} a b part m (Err stop)
       → FallsShortFrom models (running_of a) (running core bus tally watcher) stop part
-  run-fell a b core bus tally watcher part m stop is_core is_bus is_watcher answers =
-      run-short models (running_of a) core bus tally watcher part stop
-      (run-stopped a b core bus watcher part m stop is_core is_bus is_watcher answers)
+  run-fell = search (arith, rules, run-short, run-stopped)
 
   -- all of it was done, and the watcher refused to be shown its end
   pub end-refused : {X : Type 0} (a b c : Runner T O E W) (core : Core) (bus : Bus T O E) (watcher : W) (part : State → Trace) (m : Count) (x : X)

@@ -1,34 +1,22 @@
 -- Where a run stopped, of its parts one after the other.
-use Rattle.std.proofs.Common.{◌≡◌, ℕ, List, [], ◌⊎◌, inl, inr, refl, ap, sym, ◌∙◌}
+use Rattle.vector_loop.proofs.Common.{Bus, BusRepresents, Core, DeviceState, Err, Instruction, IsOutside, List, MadeOrCut, Models, NoMemory, Option}
+use Rattle.vector_loop.proofs.Common.{Running, State, Stop, Tally, Trace, [], ap, appended_to, bus_rules, contents_on, followed_by, inl, inr, arith}
+use Rattle.vector_loop.proofs.Common.{instruction, makes, makes-none, page_in, refl, running, running_state, stays, sym, ℕ, ◌∙◌, ◌≡◌, rules}
+use Rattle.std.proofs.Common.{◌⊎◌}
 use Rattle.std.proofs.lemmas.List.{append-nil}
-use Rattle.std.specs.Prelude.{Option, IfSome, Err}
-use Rattle.uxn_opcodes.specs.declared.Core.{Core}
-use Rattle.uxn_opcodes.specs.declared.Stop.{Stop}
-use Rattle.uxn_opcodes.specs.declared.Stop.TheVariants.{NoMemory}
-use Rattle.uxn_opcodes.specs.Instruction.{Instruction}
-use Rattle.varvara_bus.specs.declared.bus.Bus.{Bus}
-use Rattle.varvara_bus.specs.State.{DeviceState}
-use Rattle.varvara_bus.specs.Bus.{BusRepresents, IsOutside, bus_rules, contents_on}
-use Rattle.varvara_bus.specs.InstructionLaws.{makes-none, stops-first, stops-later, instruction-cut}
+use Rattle.std.specs.Prelude.{IfSome}
+use Rattle.varvara_bus.specs.InstructionLaws.{instruction-cut, stops-first, stops-later}
 use Rattle.varvara_bus.specs.Folders.{instruction-names}
-use Rattle.vector_loop.specs.declared.tally.Tally.{Tally}
-use Rattle.vector_loop.specs.State.{State}
-use Rattle.vector_loop.specs.Trace.{Trace, stays, makes, followed_by}
 use Rattle.vector_loop.specs.TraceLaws.{followed_by-again, followed_by-at, stays-after}
 use Rattle.vector_loop.specs.Folders.{names-first, takes-later}
-use Rattle.vector_loop.specs.Vector.{instruction}
-use Rattle.vector_loop.specs.Watch.{page_in}
-use Rattle.vector_loop.specs.Follows.{Models, Running, running, running_state, Follows, FallsShort, FallsShortFrom}
-use Rattle.vector_loop.specs.Making.{MadeOrCut}
-use Rattle.vector_loop.specs.Outputs.{appended_to}
-use Rattle.vector_loop.specs.Stops.{WatcherRefused, InstructionStopped, StepStopped, StopsIn, StopsInFrom, RunStops}
-use Rattle.vector_loop.proofs.Along.{Watched, is_page, stops-here, reached, follows-nothing, follows-on}
+use Rattle.vector_loop.specs.Follows.{FallsShort, FallsShortFrom, Follows}
+use Rattle.vector_loop.specs.Stops.{InstructionStopped, RunStops, StepStopped, StopsIn, StopsInFrom, WatcherRefused}
+use Rattle.vector_loop.proofs.Along.{Watched, follows-nothing, follows-on, is_page, reached, stops-here}
 use Rattle.vector_loop.proofs.Makings.{no-memory, the-stop}
 
 -- the one, or what the other gives
 or-else : {A B C : Type 0} → (B → C) → A ⊎ B → A ⊎ C
-or-else f (inl a) = inl a
-or-else f (inr b) = inr (f b)
+or-else = search (arith, rules)
 
 module _ {T O E W H : Type 0} (models : Models T O E W H) where
   -- the step that stopped was within the part, whatever would follow it
@@ -144,11 +132,7 @@ module _ {T O E W H : Type 0} (models : Models T O E W H) where
   falls-instruction : (here now : Running T O E W) (stop : Stop) (state : State)
       → WatcherRefused models here now stop ⊎ InstructionStopped models here now stop state
       → FallsShort models here now stop (instruction state)
-  falls-instruction here now stop state (inl refused) = record {
-    made = rw (refused.memory, refused.bus)
-        (stops-here models.meaning here.bus here.bus [] (instruction state).changes (makes-none models.meaning here.bus));
-    names = λ wanted. inl (record { before = _; now = _; is = refused.left });
-  }
+  falls-instruction here now stop state (inl refused) = search (arith, rules, makes-none, stops-here)
   falls-instruction here now stop state (inr stopped) = record {
     made = stopped.made;
     names = λ wanted. inr (record { before = []; moment = state; after = []; in_order = refl; takes = stopped.names wanted });
@@ -173,9 +157,7 @@ module _ {T O E W H : Type 0} (models : Models T O E W H) where
 
   pub falls_short_from : (before now : Running T O E W) (stop : Stop) (part : State → Trace)
       → StopsInFrom models before now stop part → FallsShortFrom models before now stop part
-  falls_short_from before now stop part stops = record {
-    from = λ devices stands. falls-short before now stop (part (running_state before devices)) (stops.from devices stands);
-  }
+  falls_short_from = search (arith, rules, falls-short)
 
   -- nor was all of a run done, whatever was counted
   pub run-short : (before : Running T O E W) (core : Core) (bus : Bus T O E) (tally : Tally) (watcher : W) (part : State → Trace) (stop : Stop)

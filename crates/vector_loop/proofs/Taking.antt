@@ -1,13 +1,13 @@
 -- What is left of a script once the next thing was taken.
-use Rattle.std.proofs.Common.{◌≡◌, ◌≢◌, ℕ, ◌<◌, ◌≤◌, ◌-◌, List, [], ◌∷◌, ◌++◌, take, drop, length, map, refl, sym, ap, ◌∙◌, arith}
-use Rattle.std.specs.Prelude.{slice_index_or}
+use Rattle.std.proofs.lemmas.Grind.{common_steps}
+use Rattle.vector_loop.proofs.Common.{Event, List, OfEvent, [], ap, arguments_given, arith, drop, length, map, slice_index_or, sym, take, ℕ}
+use Rattle.vector_loop.proofs.Common.{◌++◌, ◌-◌, ◌<◌, ◌∙◌, ◌∷◌, ◌≡◌, ◌≢◌, ◌≤◌, rules}
 use Rattle.std.proofs.Math.Seq.{take-length}
 use Rattle.std.proofs.lemmas.List.{length-map}
 use Rattle.play_script.specs.Held.{bytes_in}
-use Rattle.play_script.specs.declared.script.Event.{Event}
 use Rattle.uxn_io_traits.specs.ByteList.{ByteList}
-use Rattle.vector_loop.specs.declared.pending_input.PendingInput.TheVariants.{OfArgument, OfEvent}
-use Rattle.vector_loop.specs.PendingInputs.{of_argument, arguments_given, pending_left, kind_before}
+use Rattle.vector_loop.specs.declared.pending_input.PendingInput.TheVariants.{OfArgument}
+use Rattle.vector_loop.specs.PendingInputs.{kind_before, of_argument, pending_left}
 
 -- what stands behind the first of a list
 abbrev pub behind : {X : Type 0} → List X → List X
@@ -19,21 +19,13 @@ behind-first x xs = sym (ap (λ n. take n xs) (omega arith) ∙ take-length xs)
 pub all-left : (texts : List (List ℕ)) (events : List Event)
     → pending_left (slice_index_or texts 0 []) texts events ≡ map of_argument (arguments_given texts) ++ map OfEvent events
 unfolding arguments_given
-all-left [] events = refl
-all-left (text ∷ texts) events = refl
+all-left = search (arith, rules)
 
 pub takes-newline : (bytes : List ℕ) (all : List ByteList) (events : List Event) → 1 ≤ length all → length bytes < 1
     → pending_left bytes (bytes_in all) events
     ≡ OfArgument 10 (kind_before (length (behind all)))
     ∷ pending_left (slice_index_or (bytes_in (behind all)) 0 []) (bytes_in (behind all)) events
-takes-newline (byte ∷ bytes) all events some none = absurd (omega (arith, none))
-takes-newline [] [] events some none = absurd (omega (arith, some))
-takes-newline [] (text ∷ texts) events some none =
-    ap (λ n. OfArgument 10 (kind_before n) ∷ (map of_argument (arguments_given (bytes_in texts)) ++ map OfEvent events))
-    (length-map texts (λ (t : ByteList). t.list))
-    ∙ ap (λ left. OfArgument 10 (kind_before (length texts)) ∷ left) (sym (all-left (bytes_in texts) events))
-    ∙ ap (λ later. OfArgument 10 (kind_before (length later))
-    ∷ pending_left (slice_index_or (bytes_in later) 0 []) (bytes_in later) events) (behind-first text texts)
+takes-newline = grind (arith, common_steps, all-left, behind-first, length-map)
 
 -- something is left where an argument is
 pub some-left : (bytes : List ℕ) (all : List ByteList) (events : List Event) → 1 ≤ length all → pending_left bytes (bytes_in all) events ≢ []

@@ -1,13 +1,12 @@
 -- What a watcher holds after more was shown to it, and the changes at moments after others.
-use Rattle.std.proofs.Common.{◌≡◌, ◌≢◌, ℕ, true, false, arith, List, [], ◌∷◌, ◌++◌, refl, ap, sym, ◌∙◌, append_assoc}
+use Rattle.vector_loop.proofs.Common.{Change, Core, List, Page, State, [], ap, arith, false, instruction, page_in, refl, shown_all, sym, true, ℕ}
+use Rattle.vector_loop.proofs.Common.{◌++◌, ◌∙◌, ◌∷◌, ◌≡◌, ◌≢◌}
+use Rattle.std.proofs.Common.{append_assoc}
 use Rattle.std.specs.Prelude.{◌==◌}
 use Rattle.std.proofs.lemmas.Bool.Decides.{nat_tests}
-use Rattle.uxn_io_traits.specs.Outside.{Change}
-use Rattle.uxn_opcodes.specs.declared.Core.{Core}
 use Rattle.vector_loop.specs.declared.watch.Moment.{Moment}
-use Rattle.vector_loop.specs.State.{State}
-use Rattle.vector_loop.specs.Vector.{instruction, AreChangesAt}
-use Rattle.vector_loop.specs.Watch.{Page, page_in, moment_of, shown_all}
+use Rattle.vector_loop.specs.Vector.{AreChangesAt}
+use Rattle.vector_loop.specs.Watch.{moment_of}
 
 pub shown_all-append : {H : Type 0} (shown : H → Core → Page → Moment → H) (held : H) (first more : List State)
     → shown_all shown held (first ++ more) ≡ shown_all shown (shown_all shown held first) more

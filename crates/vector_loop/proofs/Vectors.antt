@@ -1,35 +1,28 @@
 -- The instructions of a vector, one after the other.
-use Rattle.std.proofs.Common.{◌≡◌, ℕ, zero, suc, ◌+◌, true, false, cond, inl, inr, refl, ap, subst, sym, ◌∙◌, arith}
+use Rattle.vector_loop.proofs.Common.{Bus, Core, Err, Instruction, Ledger, Models, NoMemory, Ok, Result, Running, State, Stop, Tally, Trace, ap}
+use Rattle.vector_loop.proofs.Common.{arith, bus_faults, bus_rules, false, followed_by, inl, inr, instruction, ledger-same, ledger-then, rules}
+use Rattle.vector_loop.proofs.Common.{makes-none, refl, result_blame, running, running_state, same-again, stays, suc, sym, true, vector, ℕ, ◌+◌}
+use Rattle.vector_loop.proofs.Common.{◌∙◌, ◌≡◌}
+use Rattle.std.proofs.Common.{subst, zero}
 use Rattle.std.proofs.lemmas.Bool.{cases_Bool}
-use Rattle.std.specs.Prelude.{IfOk, Result, Ok, Err, ◌||◌}
-use Rattle.uxn_io_traits.specs.Faults.{Ledger, Nobody}
-use Rattle.uxn_io_traits.specs.FaultLaws.{ledger-same, ledger-then}
-use Rattle.uxn_opcodes.specs.declared.Core.{Core}
-use Rattle.uxn_opcodes.specs.declared.Stop.{Stop}
-use Rattle.uxn_opcodes.specs.declared.Stop.TheVariants.{NoMemory}
-use Rattle.uxn_opcodes.specs.declared.Turn.TheVariants.{Ran, Broke as Broken}
-use Rattle.uxn_opcodes.specs.Ports.{result_blame}
+use Rattle.std.specs.Prelude.{IfOk}
+use Rattle.uxn_io_traits.specs.Faults.{Nobody}
+use Rattle.uxn_opcodes.specs.declared.Turn.TheVariants.{Broke as Broken, Ran}
 use Rattle.uxn_opcodes.specs.Rule.{opcode_at}
-use Rattle.uxn_opcodes.specs.Instruction.{Instruction}
-use Rattle.varvara_bus.specs.declared.bus.Bus.{Bus}
-use Rattle.varvara_bus.specs.Bus.{bus_faults, bus_rules}
-use Rattle.varvara_bus.specs.InstructionLaws.{makes-none, same-itself, same-again, instruction-borrowed, instruction-fault}
-use Rattle.vector_loop.specs.declared.tally.Tally.{Tally}
+use Rattle.varvara_bus.specs.InstructionLaws.{instruction-borrowed, instruction-fault, same-itself}
 use Rattle.vector_loop.specs.declared.tally.VectorEnd.{VectorEnd}
 use Rattle.vector_loop.specs.declared.tally.VectorEnd.TheVariants.{Broke, Cut}
-use Rattle.vector_loop.specs.State.{State, counting_instruction, counting_vector, counting_cut}
-use Rattle.vector_loop.specs.Trace.{Trace, stays, followed_by}
-use Rattle.vector_loop.specs.Vector.{instruction, at_break, instructions, breaks, ends_by, begun_at, vector}
+use Rattle.vector_loop.specs.State.{counting_cut, counting_instruction, counting_vector}
+use Rattle.vector_loop.specs.Vector.{at_break, begun_at, breaks, ends_by, instructions}
 use Rattle.vector_loop.specs.Budget.{budget_with_break, counting_run, ends-more}
 use Rattle.vector_loop.specs.Watch.{MayRefuse}
-use Rattle.vector_loop.specs.Follows.{Models, Running, running, running_state}
 use Rattle.vector_loop.specs.Stops.{StopsInFrom}
-use Rattle.vector_loop.specs.Answers.{ReachesResult, RanTo}
+use Rattle.vector_loop.specs.Answers.{RanTo, ReachesResult}
 use Rattle.vector_loop.specs.TraceLaws.{stays-after}
-use Rattle.vector_loop.proofs.Traces.{is_zero, is_not_zero}
-use Rattle.vector_loop.proofs.Along.{Watched, blame-same, reached, follows-instruction, not-break, is-break}
-use Rattle.vector_loop.proofs.Stopping.{stopped-instruction, refused-instruction}
-use Rattle.vector_loop.proofs.Answering.{reaches-where, reaches-then}
+use Rattle.vector_loop.proofs.Traces.{is_not_zero, is_zero}
+use Rattle.vector_loop.proofs.Along.{Watched, blame-same, follows-instruction, is-break, not-break, reached}
+use Rattle.vector_loop.proofs.Stopping.{refused-instruction, stopped-instruction}
+use Rattle.vector_loop.proofs.Answering.{reaches-then, reaches-where}
 
 -- what is left of a vector where the next instruction is BRK, where it is not, and where nothing is left
 record LeftIs (left : ℕ) (state : State) (part : State → Trace) (end : VectorEnd) : Type 0 where
@@ -38,18 +31,12 @@ record LeftIs (left : ℕ) (state : State) (part : State → Trace) (end : Vecto
 
 left-break : (less : ℕ) (state : State) → at_break state ≡ true → LeftIs (suc less) state instruction Broke
 unfolding instructions breaks
-left-break less state at = record {
-  whole = ap (λ b. cond b (instruction state) (followed_by (instruction state) (instructions less))) at;
-  ends = ap (λ b. cond (b || breaks less (instruction state).last) Broke Cut) at;
-}
+left-break = search (arith, rules)
 
 left-next : (less : ℕ) (state : State) → at_break state ≡ false
     → LeftIs (suc less) state (λ s. followed_by (instruction s) (instructions less)) (ends_by less (instruction state).last)
 unfolding instructions breaks
-left-next less state on = record {
-  whole = ap (λ b. cond b (instruction state) (followed_by (instruction state) (instructions less))) on;
-  ends = ap (λ b. cond (b || breaks less (instruction state).last) Broke Cut) on;
-}
+left-next = search (arith, rules)
 
 left-none : (state : State) → LeftIs zero state (λ s. stays (record s { tally = counting_cut s.tally })) Cut
 unfolding instructions breaks
@@ -65,13 +52,10 @@ left-instruction less state = elim (cases_Bool (at_break state)) [
 -- an instruction that ran before the others is counted with them
 counted-more : (end : Result VectorEnd Stop) (number : ℕ) (tally : Tally)
     → counting_run end (budget_with_break end (suc number)) tally ≡ counting_run end (budget_with_break end number) (counting_instruction tally)
-counted-more (Ok Broke) number tally = ap (λ n. record tally { instructions = n }) (omega arith)
-counted-more (Ok Cut) number tally = ap (λ n. record tally { instructions = n; cuts = tally.cuts + 1 }) (omega arith)
-counted-more (Err stop) number tally = ap (λ n. record tally { instructions = n }) (omega arith)
+counted-more = search (arith, rules)
 
 ok-then : {X : Type 0} (P Q : X → Type 0) (r : Result X Stop) → ((x : X) → P x → Q x) → IfOk r P → IfOk r Q
-ok-then P Q (Ok x) then p = then x p
-ok-then P Q (Err stop) then p = tt
+ok-then = search (arith, rules)
 
 -- the machine, the bus and the watcher are these by now, and so many instructions more are counted
 abbrev pub counted_to : {T O E W : Type 0} → Running T O E W → Core → Bus T O E → W → ℕ → Running T O E W
@@ -201,10 +185,7 @@ module _ {T O E W H : Type 0} (models : Models T O E W H) where
       → RanTo models before core_new bus_new watcher_new budget (done + number) end
 
   pub along-start : (before : Running T O E W) (budget done : ℕ) → done ≡ 0 → Along before before.core before.bus before.watcher budget done budget
-  along-start before budget done none = λ core bus watcher number end ran.
-      let Q : ℕ → Type 0 = λ n. RanTo models before core bus watcher budget n end in
-      let same : before.tally.instructions + done ≡ before.tally.instructions = omega (arith, none) in
-      subst Q (omega (arith, none)) (rw same at ran)
+  along-start = search (arith, rules)
 
   module _ (before : Running T O E W) (core : Core) (bus : Bus T O E) (watcher : W) (budget done left : ℕ)
       (along : Along before core bus watcher budget done left) where
@@ -226,9 +207,7 @@ module _ {T O E W H : Type 0} (models : Models T O E W H) where
     pub along-end : (core_new : Core) (bus_new : Bus T O E) (watcher_new : W) (end : Result VectorEnd Stop)
         → RanTo models (counted_to before core bus watcher done) core_new bus_new watcher_new left 0 end
         → RanTo models before core_new bus_new watcher_new budget done end
-    along-end core_new bus_new watcher_new end ran =
-        let Q : ℕ → Type 0 = λ n. RanTo models before core_new bus_new watcher_new budget n end in
-        subst Q (omega arith) (along core_new bus_new watcher_new 0 end ran)
+    along-end = search (arith, rules)
 
   -- what begins at an address is a vector
   pub vector-reaches : {X : Type 0} (before now : Running T O E W) (budget other at : ℕ) (r : Result X Stop) → budget ≡ other

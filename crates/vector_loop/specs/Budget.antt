@@ -32,7 +32,8 @@ module _ {S : Type 0} (rules : Rules S) where
   abbrev pub RunsWithin : ℕ → Core → S → Core → S → Type 0
   RunsWithin zero core ports core_new ports_new = (core_new ≡ core) × (ports_new ≡ ports)
   RunsWithin (suc number) core ports core_new ports_new =
-      (middle : Core) × ((between : S) × (Instruction rules core ports (Ok Ran) middle between × RunsWithin number middle between core_new ports_new))
+      (middle : Core) × ((between : S) × (Instruction rules core ports (Ok Ran) middle between
+      × RunsWithin number middle between core_new ports_new))
 
   -- then came BRK, or as many had run as may, or an instruction stopped, or the watcher refused before one: but for the second, fewer
   -- had run
@@ -68,7 +69,8 @@ module _ {S : Type 0} (rules : Rules S) where
 
   -- one more ran before them
   pub ends-more : (refuses : Type 0) (result : Result VectorEnd Stop) (number most : ℕ) (core core_new : Core) (ports ports_new : S)
-      → EndsBy refuses result number most core ports core_new ports_new → EndsBy refuses result (suc number) (suc most) core ports core_new ports_new
+      → EndsBy refuses result number most core ports core_new ports_new
+      → EndsBy refuses result (suc number) (suc most) core ports core_new ports_new
   ends-more refuses (Ok Broke) number most core core_new ports ports_new ends = (omega (arith, ends.0), ends.1)
   ends-more refuses (Ok Cut) number most core core_new ports ports_new ends = (omega (arith, ends.0), ends.1)
   ends-more refuses (Err stop) number most core core_new ports ports_new ends = (omega (arith, ends.0), ends.1)

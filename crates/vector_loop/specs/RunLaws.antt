@@ -58,12 +58,8 @@ alike-by state at devices tally root first second count =
 
 -- no event and no expect counts an instruction
 event-count : (event : Event) (tally : Tally) → (counting_event event tally).instructions ≡ tally.instructions
-event-count (Input byte) tally = refl
-event-count EndInput tally = refl
-event-count (Device input) tally = refl
 event-count Frame tally = refl
-event-count Shot tally = refl
-event-count (Expect port byte) tally = refl
+event-count _ tally = refl
 
 expect-count : (hit : Bool) (tally : Tally) → (counting_expect hit tally).instructions ≡ tally.instructions
 expect-count true tally = refl
@@ -118,7 +114,8 @@ module _ (outputs : Outputs) (Q : State → Trace → Type 0) (holds : HoldsOn o
 
   console-holds : (budget byte : ℕ) (kind : EventKind) → All (console budget byte kind)
   unfolding console
-  console-holds budget byte kind = stored-holds ((0x12, byte) ∷ (0x17, event_byte kind) ∷ []) (vector_in budget 0x10) (vector_in-holds budget 0x10)
+  console-holds budget byte kind =
+      stored-holds ((0x12, byte) ∷ (0x17, event_byte kind) ∷ []) (vector_in budget 0x10) (vector_in-holds budget 0x10)
 
   device-holds : (budget : ℕ) (input : DeviceInput) → All (device budget input)
   unfolding device

@@ -22,7 +22,8 @@ skipped given item items state one more = go (is_over state)
 no-vectors : (budget : ℕ) (state : State) → ended_vectors budget (false ∷ false ∷ false ∷ false ∷ []) state ≡ stays state
 unfolding give_each
 no-vectors budget state =
-    let given : ℕ → State → Trace = λ voice. vector_where budget (slice_index_or (false ∷ false ∷ false ∷ false ∷ []) voice false) voice in
+    let none : List Bool = false ∷ false ∷ false ∷ false ∷ [] in
+    let given : ℕ → State → Trace = λ voice. vector_where budget (slice_index_or none voice false) voice in
     skipped given 0 (1 ∷ 2 ∷ 3 ∷ []) state refl (skipped given 1 (2 ∷ 3 ∷ []) state refl
     (skipped given 2 (3 ∷ []) state refl (skipped given 3 [] state refl refl)))
 

@@ -4,7 +4,7 @@ use Rattle.std.proofs.lemmas.Bool.{cases_Bool}
 use Rattle.std.specs.Prelude.{◌∷◌, Option, Some, None}
 use Rattle.std.proofs.Common.{inl, inr, cond, refl, ap, sym, subst, ◌∙◌, arith}
 use Rattle.std.proofs.lemmas.List.{append-nil}
-use Rattle.play_script.specs.declared.script.Event.TheVariants.{Input, EndInput, Frame, Device, Shot, Expect}
+use Rattle.play_script.specs.declared.script.Event.TheVariants.{Input, EndInput}
 use Rattle.play_script.specs.Scripts.{ScriptView}
 use Rattle.varvara_bus.specs.History.{stored_short}
 use Rattle.vector_loop.specs.declared.pending_input.PendingInput.{PendingInput}
@@ -74,15 +74,13 @@ HoldsFirst budget outputs input state (Some byte) = given budget outputs input s
     (holding byte (counted_input input state))
 HoldsFirst budget outputs input state None = Unit {0}
 
-holds_first : (budget : ℕ) (outputs : Outputs) (input : PendingInput) (state : State) → HoldsFirst budget outputs input state (console_byte_of input)
+holds_first : (budget : ℕ) (outputs : Outputs) (input : PendingInput) (state : State)
+    → HoldsFirst budget outputs input state (console_byte_of input)
 unfolding HoldsFirst console give
 holds_first budget outputs (OfArgument byte kind) state = refl
 holds_first budget outputs (OfEvent (Input byte)) state = refl
 holds_first budget outputs (OfEvent EndInput) state = refl
-holds_first budget outputs (OfEvent Frame) state = tt
-holds_first budget outputs (OfEvent (Device input)) state = tt
-holds_first budget outputs (OfEvent Shot) state = tt
-holds_first budget outputs (OfEvent (Expect port byte)) state = tt
+holds_first budget outputs (OfEvent _) state = tt
 
 giving-keeps : (budget : ℕ) (outputs : Outputs) (input : PendingInput) (byte : Option ConsoleByte) (done : Trace) (later : List PendingInput)
     → 1 ≤ budget

@@ -1,12 +1,11 @@
+use Rattle.std.proofs.lemmas.Grind.{common_steps}
 use Rattle.std.proofs.Common.{◌<◌, arith}
 use Rattle.std.proofs.lemmas.List.Elements.{All-from_get_or}
 use Rattle.hex.proofs.HexLemmas.{decode_of-ok}
 use Rattle.play_script.proofs.values.text_of_values.Goals as goal
 
 pub returns-in-Ok-clause-short : goal.returns-in-Ok-clause-short
-returns-in-Ok-clause-short c =
-    let known = decode_of-ok c.args.word.now c.in-Ok.bytes.items c.in-Ok.ensures.ok in
-    rw c.from.ensures (omega (arith, known.2, c.requires))
+returns-in-Ok-clause-short c = grind (arith, common_steps, decode_of-ok)
 
 pub returns-in-Ok-clause-bytes : goal.returns-in-Ok-clause-bytes
 returns-in-Ok-clause-bytes c =

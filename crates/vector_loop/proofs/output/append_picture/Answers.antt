@@ -1,10 +1,6 @@
-use Rattle.std.proofs.Common.{◌≡◌, ◌+◌, ◌-◌, ◌∙◌, Err, rules, arith}
-use Rattle.std.specs.List.{flat_map, range_with_len}
+use Rattle.vector_loop.proofs.Common.{Err, arith, flat_map, picture_bytes, picture_row_of, range_with_len, rules, same-again, ◌+◌, ◌-◌, ◌∙◌, ◌≡◌}
 use Rattle.screen_frame.specs.Ppm.{head_bytes}
-use Rattle.screen_layers.specs.Pictures.{picture_row_of}
-use Rattle.varvara_bus.specs.InstructionLaws.{same-again}
-use Rattle.vector_loop.specs.Outputs.{picture_bytes}
-use Rattle.vector_loop.proofs.Makings.{picture-parts, rows-next, putting-more, putting-cut, made-nothing}
+use Rattle.vector_loop.proofs.Makings.{made-nothing, picture-parts, putting-cut, putting-more, rows-next}
 use Rattle.vector_loop.proofs.output.append_picture.Goals as goal
 
 pub returns-in_err-append_to : goal.returns-in_err-append_to

@@ -1,8 +1,5 @@
-use Rattle.std.proofs.Common.{◌≡◌, ◌-◌}
-use Rattle.std.specs.List.{flat_map, range_with_len}
-use Rattle.screen_layers.specs.Pictures.{picture_row_of}
-use Rattle.vector_loop.specs.Outputs.{picture_bytes}
-use Rattle.varvara_bus.specs.Bus.{SameBus, meaning_of, screen_of}
+use Rattle.vector_loop.proofs.Common.{SameBus, flat_map, picture_bytes, picture_row_of, range_with_len, ◌-◌, ◌≡◌}
+use Rattle.varvara_bus.specs.Bus.{meaning_of, screen_of}
 use Rattle.vector_loop.proofs.Makings.{Putting}
 use Rattle.vector_loop.proofs.output.append_picture.Given as goal
 

@@ -1,5 +1,5 @@
-use Rattle.std.proofs.Common.{◌≤◌, length, arith, ap, sym}
-use Rattle.vector_loop.proofs.Makings.{to_file, row-taken, made-where}
+use Rattle.vector_loop.proofs.Common.{ap, arith, length, sym, ◌≤◌}
+use Rattle.vector_loop.proofs.Makings.{made-where, row-taken, to_file}
 use Rattle.vector_loop.proofs.output.append_row.Goals as goal
 
 pub returns : goal.returns

@@ -1,6 +1,4 @@
-use Rattle.std.proofs.Common.{◌≡◌, ◌*◌, map, take}
-use Rattle.audio_mixer.specs.Laws.{sample_short}
-use Rattle.vector_loop.specs.Outputs.{samples_bytes}
+use Rattle.vector_loop.proofs.Common.{map, sample_short, samples_bytes, take, ◌*◌, ◌≡◌}
 use Rattle.vector_loop.proofs.output.put_samples.Given as goal
 
 abbrev pub invariant-loop-i : goal.invariant-loop-i

@@ -1,23 +1,16 @@
-use Rattle.std.proofs.Common.{◌≡◌, Err, refl, arith, rules}
+use Rattle.vector_loop.proofs.Common.{Err, arith, refl, rules, ◌≡◌}
 use Rattle.vector_loop.specs.Run.{most_of, run}
 use Rattle.vector_loop.proofs.Counting.{room-new}
-use Rattle.vector_loop.specs.PendingInputs.{arguments_given}
 use Rattle.vector_loop.proofs.Giving.{all-given}
 use Rattle.vector_loop.proofs.PendingInputs.{inputs-count}
-use Rattle.vector_loop.proofs.Runs.{ends-handed, run-stopped, run-fell, end-refused}
+use Rattle.vector_loop.proofs.Runs.{end-refused, ends-handed, run-fell, run-stopped}
 use Rattle.vector_loop.proofs.run.run_script.Goals as goal
 
 pub run-requires-clause-frames : goal.run-requires-clause-frames
-run-requires-clause-frames g c =
-    let counts = inputs-count (arguments_given c.args.script.now.arguments) c.args.script.now.events in
-    omega (arith, c.requires.frames, c.known.ensures.events_few, counts.events)
+run-requires-clause-frames = search (arith, rules, inputs-count)
 
 pub run-requires-clause-room : goal.run-requires-clause-room
-run-requires-clause-room g c =
-    let counts = inputs-count (arguments_given c.args.script.now.arguments) c.args.script.now.events in
-    room-new (most_of c.args.script.now) c.args.budget c.requires.budget
-    (omega (arith, all-given c.args.script.now.arguments, c.known.ensures.arguments.0, c.known.ensures.events_few, counts.vectors))
-    (omega (arith, c.known.ensures.events_few, counts.events)) (omega (arith, c.ranges.budget.fits))
+run-requires-clause-room = search (arith, rules, all-given, inputs-count, room-new)
 
 pub returns-clause-ok : goal.returns-clause-ok
 returns-clause-ok g c =
@@ -25,10 +18,7 @@ returns-clause-ok g c =
     (search rules) (search rules) refl (search rules)
 
 pub returns-in_err-run-clause-stopped : goal.returns-in_err-run-clause-stopped
-returns-in_err-run-clause-stopped g c =
-    let result : c.from_residual.result ≡ Err c.in_err-run.field-0.0 = search rules in
-    rw result (run-stopped _ _ _ _ _ _ _ (most_of c.args.script.now) c.in_err-run.field-0.0 (search rules) (search rules)
-    (search rules) c.in_err-run.ensures)
+returns-in_err-run-clause-stopped = search (arith, rules, run-stopped)
 
 pub returns-in_err-run-clause-err : goal.returns-in_err-run-clause-err
 returns-in_err-run-clause-err g c =

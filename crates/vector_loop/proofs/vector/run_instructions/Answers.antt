@@ -1,7 +1,6 @@
-use Rattle.std.proofs.Common.{◌-◌, arith}
+use Rattle.vector_loop.proofs.Common.{arith, models_of, ◌-◌}
 use Rattle.uxn_opcodes.specs.declared.Turn.{Turn}
-use Rattle.vector_loop.specs.Follows.{models_of}
-use Rattle.vector_loop.proofs.Vectors.{along-start, along-ran, along-end, ran-broke, ran-stopped, ran-refused, ran-cut}
+use Rattle.vector_loop.proofs.Vectors.{along-end, along-ran, along-start, ran-broke, ran-cut, ran-refused, ran-stopped}
 use Rattle.vector_loop.proofs.vector.run_instructions.Goals as goal
 
 pub loop-core-init : goal.loop-core-init

@@ -1,6 +1,5 @@
-use Rattle.std.proofs.Common.{◌-◌, ◌≤◌}
+use Rattle.vector_loop.proofs.Common.{models_of, running, ◌-◌, ◌≤◌}
 use Rattle.uxn_opcodes.specs.Rule.{moved}
-use Rattle.vector_loop.specs.Follows.{running, models_of}
 use Rattle.vector_loop.proofs.Vectors.{Along}
 use Rattle.vector_loop.proofs.vector.run_instructions.Given as goal
 

@@ -1,7 +1,6 @@
-use Rattle.vector_loop.specs.declared.pending_input.PendingInput.TheVariants.{OfArgument, OfEvent}
-use Rattle.vector_loop.specs.Answers.{of_vectors, of_events}
-use Rattle.vector_loop.specs.PendingInputs.{given, input_count}
-use Rattle.vector_loop.proofs.Answering.{answers-over, answers-not_over}
+use Rattle.vector_loop.proofs.Common.{given, arith, rules}
+use Rattle.vector_loop.specs.PendingInputs.{input_count}
+use Rattle.vector_loop.proofs.Answering.{answers-not_over, answers-over}
 use Rattle.vector_loop.proofs.runner.Runner.deliver.Goals as goal
 
 pub returns-then-is_over : goal.returns-then-is_over
@@ -10,11 +9,7 @@ returns-then-is_over g c =
     (tt {0}) c.is_over.result c.is_over.ensures c.if-is_over.true
 
 pub returns-in-OfArgument : goal.returns-in-OfArgument
-returns-in-OfArgument g c = rw c.in-OfArgument.is
-    (answers-not_over _ _ _ (given c.args.self.now.budget c.args.outputs.now (OfArgument c.in-OfArgument.byte c.in-OfArgument.kind))
-    (of_vectors 1) _ c.is_over.result c.is_over.ensures c.if-is_over.false c.give_console.ensures)
+returns-in-OfArgument = search (arith, rules, answers-not_over)
 
 pub returns-in-OfEvent : goal.returns-in-OfEvent
-returns-in-OfEvent g c = rw c.in-OfEvent.is
-    (answers-not_over _ _ _ (given c.args.self.now.budget c.args.outputs.now (OfEvent c.in-OfEvent.event))
-    (of_events 1) _ c.is_over.result c.is_over.ensures c.if-is_over.false c.give_event.ensures.answers)
+returns-in-OfEvent = search (arith, rules, answers-not_over)

@@ -1,9 +1,5 @@
-use Rattle.std.proofs.Common.{◌+◌, ◌≤◌, length}
+use Rattle.vector_loop.proofs.Common.{HasTallyRoom, SameRunner, counts_of, give_each, given, length, models_of, ◌+◌, ◌≤◌}
 use Rattle.varvara_bus.specs.Bus.{frames_begun}
-use Rattle.vector_loop.specs.Event.{give_each}
-use Rattle.vector_loop.specs.PendingInputs.{given, counts_of}
-use Rattle.vector_loop.specs.Follows.{models_of}
-use Rattle.vector_loop.specs.Answers.{HasTallyRoom, SameRunner}
 use Rattle.vector_loop.proofs.Answering.{Going}
 use Rattle.vector_loop.proofs.runner.Runner.give_all.Given as goal
 

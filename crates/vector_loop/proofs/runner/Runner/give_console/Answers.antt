@@ -1,8 +1,6 @@
-use Rattle.std.proofs.Common.{refl, [], ◌∷◌}
-use Rattle.varvara_bus.specs.State.{storing}
+use Rattle.vector_loop.proofs.Common.{[], of_vectors, refl, storing, vector_in, ◌∷◌}
 use Rattle.console_port.specs.Console.{event_byte}
-use Rattle.vector_loop.specs.Event.{vector_in, console}
-use Rattle.vector_loop.specs.Answers.{of_vectors}
+use Rattle.vector_loop.specs.Event.{console}
 use Rattle.vector_loop.proofs.Answering.{answers-stored}
 use Rattle.vector_loop.proofs.runner.Runner.give_console.Goals as goal
 

@@ -1,13 +1,8 @@
-use Rattle.std.proofs.Common.{◌≡◌, Ok, Err, refl, rules}
-use Rattle.input_ports.specs.Page.{vector_of, stores_of, stores_after}
-use Rattle.varvara_bus.specs.History.{stored}
-use Rattle.varvara_bus.specs.State.{storing}
-use Rattle.vector_loop.specs.State.{with_stored}
-use Rattle.vector_loop.specs.Trace.{stays}
-use Rattle.vector_loop.specs.Event.{vector_in, device}
-use Rattle.vector_loop.specs.Answers.{none, of_vectors}
-use Rattle.vector_loop.proofs.Events.{its-ports, applying, settling}
-use Rattle.vector_loop.proofs.Answering.{answers-nothing, answers-then, answers-first, answers-stored, answers-over, answers-not_over}
+use Rattle.vector_loop.proofs.Common.{Err, Ok, none, of_vectors, refl, rules, stays, stored, storing, vector_in, with_stored, ◌≡◌}
+use Rattle.input_ports.specs.Page.{stores_after, stores_of, vector_of}
+use Rattle.vector_loop.specs.Event.{device}
+use Rattle.vector_loop.proofs.Events.{applying, its-ports, settling}
+use Rattle.vector_loop.proofs.Answering.{answers-first, answers-not_over, answers-nothing, answers-over, answers-stored, answers-then}
 use Rattle.vector_loop.proofs.runner.Runner.give_device.Goals as goal
 
 pub run_vector_in-requires-clause-port : goal.run_vector_in-requires-clause-port

@@ -1,16 +1,13 @@
-use Rattle.std.proofs.Common.{ap, refl, lit≤, arith}
-use Rattle.play_script.specs.declared.script.Event.TheVariants.{Input, EndInput, Frame, Device, Shot}
-use Rattle.varvara_bus.specs.State.{DeviceState, screen_refreshed}
-use Rattle.vector_loop.specs.declared.tally.Tally.{Tally}
-use Rattle.vector_loop.specs.State.{State, with_next_frame, with_counted, counting_event}
-use Rattle.vector_loop.specs.Trace.{stays}
-use Rattle.vector_loop.specs.Event.{shown_and_heard, frame, expected, shot, give}
-use Rattle.vector_loop.specs.Outputs.{picture_bytes}
-use Rattle.vector_loop.specs.Answers.{none, of_vectors, of_events}
-use Rattle.vector_loop.proofs.Counting.{grown-counted, grown-compared}
+use Rattle.vector_loop.proofs.Common.{DeviceState, State, Tally, ap, arith, counting_event, none, of_events, of_vectors, picture_bytes, refl, stays}
+use Rattle.std.proofs.Common.{lit≤}
+use Rattle.play_script.specs.declared.script.Event.TheVariants.{Device, EndInput, Frame, Input, Shot}
+use Rattle.varvara_bus.specs.State.{screen_refreshed}
+use Rattle.vector_loop.specs.State.{with_counted, with_next_frame}
+use Rattle.vector_loop.specs.Event.{expected, frame, give, shot, shown_and_heard}
+use Rattle.vector_loop.proofs.Counting.{grown-compared, grown-counted}
 use Rattle.vector_loop.proofs.Frames.{pictured}
-use Rattle.vector_loop.proofs.Events.{one_event, with_compared, answers-given}
-use Rattle.vector_loop.proofs.Answering.{answers-then, answers-within, answers-change, answers-stored, answers-made}
+use Rattle.vector_loop.proofs.Events.{answers-given, one_event, with_compared}
+use Rattle.vector_loop.proofs.Answering.{answers-change, answers-made, answers-stored, answers-then, answers-within}
 use Rattle.vector_loop.proofs.runner.Runner.give_event.Goals as goal
 
 pub returns-in-Input-clause-answers : goal.returns-in-Input-clause-answers

@@ -1,13 +1,8 @@
-use Rattle.std.proofs.Common.{◌≡◌, Ok, Err, map, refl, rules, arith}
-use Rattle.audio_mixer.specs.Laws.{sample_short}
+use Rattle.vector_loop.proofs.Common.{Err, Ok, arith, ended_vectors, followed_by, heard, map, none, of_vectors, refl, rules, sample_short}
+use Rattle.vector_loop.proofs.Common.{samples_bytes, with_rendered, ◌≡◌}
 use Rattle.varvara_bus.specs.State.{rendered}
-use Rattle.vector_loop.specs.State.{with_rendered}
-use Rattle.vector_loop.specs.Trace.{followed_by}
-use Rattle.vector_loop.specs.Outputs.{samples_bytes}
-use Rattle.vector_loop.specs.Event.{heard, ended_vectors}
-use Rattle.vector_loop.specs.Answers.{none, of_vectors}
-use Rattle.vector_loop.proofs.Frames.{kept, heard-as}
-use Rattle.vector_loop.proofs.Answering.{answers-then, answers-first, answers-where, answers-within, answers-stored, answers-made}
+use Rattle.vector_loop.proofs.Frames.{heard-as, kept}
+use Rattle.vector_loop.proofs.Answering.{answers-first, answers-made, answers-stored, answers-then, answers-where, answers-within}
 use Rattle.vector_loop.proofs.runner.Runner.give_samples.Goals as goal
 
 pub returns-in_err-keep_samples : goal.returns-in_err-keep_samples

@@ -1,12 +1,8 @@
-use Rattle.std.proofs.Common.{refl, arith}
+use Rattle.vector_loop.proofs.Common.{arith, heard, none, of_vectors, refl, stays, with_rendered}
 use Rattle.varvara_bus.specs.State.{rendered}
-use Rattle.vector_loop.specs.State.{with_rendered}
-use Rattle.vector_loop.specs.Trace.{stays}
-use Rattle.vector_loop.specs.Event.{heard}
 use Rattle.vector_loop.specs.SilenceLaws.{silent}
-use Rattle.vector_loop.specs.Answers.{none, of_vectors}
 use Rattle.vector_loop.proofs.Frames.{none-is}
-use Rattle.vector_loop.proofs.Answering.{answers-nothing, answers-where, answers-within, answers-stored}
+use Rattle.vector_loop.proofs.Answering.{answers-nothing, answers-stored, answers-where, answers-within}
 use Rattle.vector_loop.proofs.runner.Runner.give_sound.Goals as goal
 
 pub returns-then-is_endless : goal.returns-then-is_endless

@@ -1,12 +1,7 @@
-use Rattle.std.proofs.Common.{◌≡◌, Ok, Err, refl, ap, rules, arith}
-use Rattle.varvara_bus.specs.State.{storing}
-use Rattle.vector_loop.specs.State.{with_stored}
-use Rattle.vector_loop.specs.Vector.{vector}
-use Rattle.vector_loop.specs.Event.{give_each}
+use Rattle.vector_loop.proofs.Common.{Err, Ok, arith, counts_of, give_each, given, of_vectors, refl, rules, storing, vector, with_stored, ◌≡◌}
 use Rattle.vector_loop.specs.Run.{made_ready, most_of, run}
-use Rattle.vector_loop.specs.PendingInputs.{pending_inputs_of, given, counts_of}
-use Rattle.vector_loop.specs.Answers.{of_vectors}
-use Rattle.vector_loop.proofs.Answering.{answers-by, answers-then, answers-first, answers-stored, answers-within, room-after}
+use Rattle.vector_loop.specs.PendingInputs.{pending_inputs_of}
+use Rattle.vector_loop.proofs.Answering.{answers-by, answers-first, answers-stored, answers-then, answers-within, room-after}
 use Rattle.vector_loop.proofs.runner.Runner.run.Goals as goal
 
 pub returns-in_err-run_vector : goal.returns-in_err-run_vector
@@ -23,15 +18,10 @@ returns-in_err-run_vector g c =
     (rw c.args-2.ensures at c.make_ready.ensures.devices) c.in_err-run_vector.ensures.answers)))
 
 pub give_all-requires-clause-frames : goal.give_all-requires-clause-frames
-give_all-requires-clause-frames g c =
-    let few = ap (λ pending_inputs. (counts_of pending_inputs).events) c.new.ensures in
-    omega (arith, c.in_ok-run_vector.ensures.answers.frames, c.make_ready.ensures.frames, c.requires.frames, few)
+give_all-requires-clause-frames = search (arith, rules)
 
 pub give_all-requires-clause-room : goal.give_all-requires-clause-room
-give_all-requires-clause-room g c = rw c.new.ensures
-    (room-after _ (record c.args.self.now { bus = record c.args.self.now.bus { now = c.make_ready.new.bus } }) c.run_vector.new.self
-    (vector c.args.self.now.budget 0x0100) (of_vectors 1) (counts_of (pending_inputs_of c.args.script.now)) (most_of c.args.script.now)
-    (Ok c.in_ok-run_vector.field-0) (omega arith) (omega arith) c.requires.room c.in_ok-run_vector.ensures.answers)
+give_all-requires-clause-room = search (arith, rules, room-after)
 
 pub returns : goal.returns
 unfolding run

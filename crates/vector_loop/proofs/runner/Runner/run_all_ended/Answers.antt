@@ -1,18 +1,14 @@
-use Rattle.std.proofs.Common.{◌≡◌, suc, ◌+◌, ◌-◌, Err, false, slice_index_or, rules, arith}
-use Rattle.std.specs.List.{range_with_len}
-use Rattle.vector_loop.specs.Event.{unless_over, give_each, vector_where}
-use Rattle.vector_loop.specs.Answers.{of_vectors}
+use Rattle.vector_loop.proofs.Common.{Err, arith, false, give_each, of_vectors, range_with_len, rules, slice_index_or, suc, unless_over}
+use Rattle.vector_loop.proofs.Common.{vector_where, ◌+◌, ◌-◌, ◌≡◌}
 use Rattle.vector_loop.proofs.Counting.{room-less}
-use Rattle.vector_loop.proofs.Answering.{answers-nothing, going-on, going-stopped, room-after, same-itself, same-both}
+use Rattle.vector_loop.proofs.Answering.{answers-nothing, going-on, going-stopped, room-after, same-both, same-itself}
 use Rattle.vector_loop.proofs.runner.Runner.run_all_ended.Goals as goal
 
 pub loop-voice-init : goal.loop-voice-init
 loop-voice-init g c = record { going = λ after answer answers. answers; same = same-itself _ _; room = c.requires }
 
 pub run_ended-requires-clause-room : goal.run_ended-requires-clause-room
-run_ended-requires-clause-room g c =
-    room-less _ (of_vectors 1) (of_vectors (4 - c.loop-voice.voice)) _ (omega (arith, c.loop-voice-test.true))
-    (omega arith) c.loop-voice.invariant.room
+run_ended-requires-clause-room = search (arith, rules, room-less)
 
 pub loop-voice-preserved : goal.loop-voice-preserved
 unfolding give_each

@@ -1,8 +1,5 @@
-use Rattle.std.proofs.Common.{◌-◌, false, slice_index_or}
-use Rattle.std.specs.List.{range_with_len}
-use Rattle.vector_loop.specs.Follows.{models_of}
-use Rattle.vector_loop.specs.Answers.{HasTallyRoom, SameRunner, of_vectors}
-use Rattle.vector_loop.specs.Event.{give_each, vector_where, ended_vectors}
+use Rattle.vector_loop.proofs.Common.{HasTallyRoom, SameRunner, ended_vectors, false, give_each, models_of, of_vectors, range_with_len}
+use Rattle.vector_loop.proofs.Common.{slice_index_or, vector_where, ◌-◌}
 use Rattle.vector_loop.proofs.Answering.{Going}
 use Rattle.vector_loop.proofs.runner.Runner.run_all_ended.Given as goal
 

@@ -1,8 +1,5 @@
-use Rattle.std.proofs.Common.{arith}
-use Rattle.vector_loop.specs.Trace.{stays}
-use Rattle.vector_loop.specs.Event.{vector_in, vector_where}
-use Rattle.vector_loop.specs.Answers.{none, of_vectors}
-use Rattle.vector_loop.proofs.Answering.{answers-nothing, answers-within, answers-over, answers-not_over}
+use Rattle.vector_loop.proofs.Common.{arith, none, of_vectors, stays, vector_in, vector_where}
+use Rattle.vector_loop.proofs.Answering.{answers-not_over, answers-nothing, answers-over, answers-within}
 use Rattle.vector_loop.proofs.runner.Runner.run_ended.Goals as goal
 
 pub returns-then-is_over : goal.returns-then-is_over

@@ -1,10 +1,6 @@
-use Rattle.std.proofs.Common.{arith}
-use Rattle.vector_loop.specs.Trace.{stays}
-use Rattle.vector_loop.specs.Vector.{vector}
-use Rattle.vector_loop.specs.Event.{vector_in}
-use Rattle.vector_loop.specs.Answers.{none, of_vectors}
-use Rattle.vector_loop.proofs.Events.{no-vector, its-vector}
-use Rattle.vector_loop.proofs.Answering.{answers-nothing, answers-where, answers-within, answers-and}
+use Rattle.vector_loop.proofs.Common.{arith, none, of_vectors, stays, vector, vector_in}
+use Rattle.vector_loop.proofs.Events.{its-vector, no-vector}
+use Rattle.vector_loop.proofs.Answering.{answers-and, answers-nothing, answers-where, answers-within}
 use Rattle.vector_loop.proofs.runner.Runner.run_vector_in.Goals as goal
 
 pub returns-then-at-eq0 : goal.returns-then-at-eq0

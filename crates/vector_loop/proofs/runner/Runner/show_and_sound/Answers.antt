@@ -1,7 +1,6 @@
-use Rattle.std.proofs.Common.{◌≡◌, Ok, Err, rules, arith}
-use Rattle.vector_loop.specs.Event.{vector_in, unless_over, heard, shown_and_heard}
-use Rattle.vector_loop.specs.Answers.{of_vectors}
-use Rattle.vector_loop.proofs.Answering.{answers-by, answers-then, answers-first, answers-within, answers-over, answers-not_over}
+use Rattle.vector_loop.proofs.Common.{Err, Ok, arith, heard, of_vectors, rules, unless_over, vector_in, ◌≡◌}
+use Rattle.vector_loop.specs.Event.{shown_and_heard}
+use Rattle.vector_loop.proofs.Answering.{answers-by, answers-first, answers-not_over, answers-over, answers-then, answers-within}
 use Rattle.vector_loop.proofs.runner.Runner.show_and_sound.Goals as goal
 
 pub returns-in_err-run_vector_in : goal.returns-in_err-run_vector_in
