@@ -1,130 +1,69 @@
 -- What a line has put is a prefix of the stream of its last machine.
-use Rattle.uxn_line.proofs.Common.{◌≡◌, ℕ, zero, suc, ◌+◌, ◌<◌, ◌||◌, inl, inr, Bool, true, false, List, [], ◌∷◌, ◌++◌, sym, ap}
-use Rattle.uxn_line.proofs.Common.{subst, ◌∙◌, arith, append_assoc, length-append, Result, Ok, Err, cases_eq, SinkEnded, sink-as-it-was}
-use Rattle.uxn_line.proofs.Common.{SinkState, Line, Ran, Gave, Waits, Held, PlaceHasEnded, put_in, LineJob, IsJob, stream, after, Turned}
-use Rattle.uxn_line.proofs.Common.{machine_place, LineRepresents, last_machine, written_in, IsWaiting, IsStill, Leads, WritesLast, IsUnderWay}
-use Rattle.uxn_line.proofs.Common.{LineReaches, work_left, WorksOn}
-use Rattle.circular_buffer.proofs.Places.{slice_get-some}
-use Rattle.std.specs.Prelude.{is_err}
-use Rattle.std.proofs.lemmas.Bool.{true≢false}
-use Rattle.std.proofs.lemmas.List.{take-append-le}
-use Rattle.uxn_io_traits.specs.EndedLaws.{sink-then}
-use Rattle.uxn_io_traits.specs.Known.{extended}
+use Rattle.uxn_line.proofs.Common.{common_steps, ◌*◌, refl, next_machine, turned_by, is_move, Cause, Fails, Goes, HasTurned, TurnCame, StaysUnderWay}
+use Rattle.uxn_line.proofs.Common.{ring_before, LineFinishes, WorksOn, slice_get-some, is_err, sink-then, Moved, handed_on, ◌≡◌, ℕ, suc, ◌+◌, ◌-◌}
+use Rattle.uxn_line.proofs.Common.{◌<◌, Bool, true, false, cond, List, [], ◌∷◌, ◌++◌, sym, ap, subst, ◌∙◌, arith, append_assoc, length, Result, Ok}
+use Rattle.uxn_line.proofs.Common.{Err, SinkEnded, sink-as-it-was, SinkState, Line, PlaceHasEnded, put_in, LineJob, stream, Turned, machine_place}
+use Rattle.uxn_line.proofs.Common.{LineRepresents, last_machine, written_in, IsWaiting, MachineIsHeld, WritesLast, IsUnderWay, LineReaches, work_left}
+use Rattle.uxn_line.proofs.Common.{zero, exit_code_at}
+use borrow.Author.Count.{below_more}
 use Rattle.uxn_io_traits.specs.declared.sinks.Failed.{Failed}
-use Rattle.uxn_line.specs.declared.line.Moved.{Moved}
-use Rattle.uxn_line.specs.declared.line.Moved.TheVariants.{Ended}
-use Rattle.uxn_line.specs.Machines.{handed_on}
-use Rattle.uxn_line.specs.Moves.{turned_by, is_move, Cause, Goes, TurnCame, StaysUnderWay, GoesOnWith, LineStops, Went}
 use Rattle.uxn_line.proofs.MachineTurns.{run-put}
-use Rattle.uxn_line.proofs.Turning.{follows}
+use Rattle.uxn_line.proofs.Turning.{follows, ended-whole}
 use Rattle.uxn_line.proofs.Running.{leads-nowhere}
 
--- what was written is a prefix of the stream
-pub stream-is : (job : LineJob) → IsJob job → (machine count : ℕ) → (rest : List ℕ) × (stream job machine ≡ put_in (after job machine count) ++ rest)
-stream-is job is machine count = let run = follows job is machine count in (run.rest, run.prefix)
+-- no turn of a machine moves anything, for whatever numbers of turns the line stands: it waits, is held, or is at its end
+abbrev pub IsStill : Line → ℕ → Type 0
+IsStill line machine = (job : LineJob) (turned : Turned) → LineRepresents job line turned → (IsWaiting job line turned machine → ⊥)
+    → (MachineIsHeld job line turned machine → ⊥) → PlaceHasEnded (machine_place job turned machine)
 
--- where nothing moved the machine is still
 pub move-still : (line : Line) (machine : ℕ) (moved : Moved) → is_move moved ≡ false
     → ((job : LineJob) (turned : Turned) → LineRepresents job line turned → Cause job line turned machine moved) → IsStill line machine
-move-still line machine Ran is cause = absurd (cc)
-move-still line machine Gave is cause = absurd (cc)
-move-still line machine Waits is cause = λ job turned stands. inl (cause job turned stands)
-move-still line machine Held is cause = λ job turned stands. inr (inl (cause job turned stands))
-move-still line machine Ended is cause = λ job turned stands. inr (inr (cause job turned stands))
-
--- a call, and then another, of which perhaps one moved something
-pub works-then : (moved more : Bool) (a b c : Line) → WorksOn moved a b → WorksOn more b c → WorksOn (moved || more) a c
-works-then true true a b c first last = omega (arith, first, last)
-works-then true false a b c first last = (let same = ap work_left last in omega (arith, first, same))
-works-then false true a b c first last = (let same = ap work_left first in omega (arith, same, last))
-works-then false false a b c first last = last ∙ first
-
-pub works-more : (moved : Bool) (a b c : Line) → WorksOn moved a b → WorksOn true b c → WorksOn true a c
-works-more true a b c first last = works-then true true a b c first last
-works-more false a b c first last = works-then false true a b c first last
+move-still = grind (arith, common_steps)
 
 -- where the last machine writes a byte its stream goes on with it
 goes-on-with : (job : LineJob) (line : Line) (turned : Turned) (machine byte : ℕ) → LineRepresents job line turned
     → WritesLast job turned machine byte
-    → GoesOnWith job turned byte
+    → (rest : List ℕ) × (stream job (last_machine job) ≡ written_in job turned ++ byte ∷ rest)
 goes-on-with job line turned machine byte stands writes =
-    let count = stands.machines in
-    let last = writes.last in
-    let there = slice_get-some line.members.items machine (omega (arith, last, count)) in
+    let there = slice_get-some line.members.items machine (omega arith) in
     let at = (stands.each machine there.0 there.1).stands.stands in
     let place = machine_place job turned machine in
-    let vector = writes.vector in
-    let left = at.left in
-    let put = run-put job.budget there.0.machine place (omega (arith, left, vector)) at in
-    let rest = stream-is job stands.job_is machine (suc (turned machine)) in
+    let put = run-put job.budget there.0.machine place (omega arith) at in
+    let run = follows job stands.job_is machine (suc (turned machine)) in
     let bytes = ap (λ c. handed_on c) at.core ∙ writes.writes in
-    let same : machine ≡ last_machine job = omega (arith, last) in
+    let same : machine ≡ last_machine job = omega arith in
     let P : ℕ → Type 0 = λ m. (rest : List ℕ) × (stream job m ≡ put_in (machine_place job turned m) ++ byte ∷ rest) in
     subst P same (
-      rest.0,
-      rest.1 ∙ ap (λ all. all ++ rest.0) (put ∙ ap (λ b. put_in place ++ b) bytes) ∙ append_assoc (put_in place) (byte ∷ []) rest.0,
+      run.rest,
+      run.prefix ∙ ap (λ all. all ++ run.rest) (put ∙ ap (λ b. put_in place ++ b) bytes) ∙ append_assoc (put_in place) (byte ∷ []) run.rest,
     )
 
 -- some turns, and then others
-leads-then : (to then : Turned → Turned) (one two : List ℕ) (a b c : Line) → Leads to one a b → Leads then two b c
-    → Leads (λ turned. then (to turned)) (one ++ two) a c
-leads-then to then one two a b c p q = λ job turned stands.
-    let first = p job turned stands in
-    let last = q job (to turned) first.0 in
-    (last.0, last.1 ∙ ap (λ written. written ++ two) first.1 ∙ append_assoc (written_in job turned) one two)
-
-goes-then : (to then : Turned → Turned) (a b c : Line) (o p q : SinkState) → Goes to a b o p → Goes then b c p q
-    → Goes (λ turned. then (to turned)) a c o q
-goes-then to then a b c o p q first last = record {
-  bytes = first.bytes ++ last.bytes;
-  put = sink-then first.bytes last.bytes false o p q first.put last.put;
-  leads = leads-then to then first.bytes last.bytes a b c first.leads last.leads;
-}
-
 pub reach-none : (line : Line) (out : SinkState) → LineReaches line line out out
 reach-none line out = (λ turned. turned, record { bytes = []; put = sink-as-it-was out; leads = leads-nowhere line })
 
 pub reach-then : (a b c : Line) (o p q : SinkState) → LineReaches a b o p → LineReaches b c p q → LineReaches a c o q
-reach-then a b c o p q first last = (λ turned. last.0 (first.0 turned), goes-then first.0 last.0 a b c o p q first.1 last.1)
-
-pub stop-then : (a b c : Line) (o p q : SinkState) → LineReaches a b o p → LineStops b c p q → LineStops a c o q
-stop-then a b c o p q first stopped = record {
-  to = λ turned. stopped.to (first.0 turned);
-  here = stopped.here;
-  goes = goes-then first.0 stopped.to a b c o p stopped.here first.1 stopped.goes;
-  byte = stopped.byte;
-  next = λ job turned stands. stopped.next job (first.0 turned) (first.1.leads job turned stands).0;
-  put = stopped.put;
-}
+reach-then a b c o p q first last = (
+  λ turned. last.0 (first.0 turned),
+  record {
+    bytes = first.1.bytes ++ last.1.bytes;
+    put = sink-then first.1.bytes last.1.bytes false o p q first.1.put last.1.put;
+    leads = λ job turned stands.
+        let middle = first.1.leads job turned stands in
+        let end = last.1.leads job (first.0 turned) middle.0 in (
+          end.0,
+          end.1 ∙ ap (λ written. written ++ last.1.bytes) middle.1 ∙ append_assoc (written_in job turned) first.1.bytes last.1.bytes,
+        );
+  },
+)
 
 -- a turn is such a way
-pub turn-went : (machine : ℕ) (a b : Line) (o p : SinkState) (result : Result Moved Failed) → TurnCame machine a b o p result → Went a b o p result
-turn-went machine a b o p (Ok moved) came = (turned_by moved machine, record { bytes = came.bytes; put = came.put; leads = came.came.leads })
-turn-went machine a b o p (Err failed) fails =
-    record {
-      to = λ turned. turned;
-      here = o;
-      goes = record { bytes = []; put = sink-as-it-was o; leads = rw fails.same (leads-nowhere a) };
-      byte = fails.byte;
-      next = λ job turned stands. goes-on-with job a turned machine fails.byte stands (fails.cause job turned stands);
-      put = fails.put;
-    }
+pub turn-reaches : (machine : ℕ) (moved : Moved) (a b : Line) (o p : SinkState) → HasTurned machine moved a b o p → LineReaches a b o p
+turn-reaches machine moved a b o p turn = (turned_by moved machine, record { bytes = turn.bytes; put = turn.put; leads = turn.came.leads })
 
 -- a call that failed, where more was to come
 sink-first : (first more : List ℕ) (a b : SinkState) → SinkEnded first true a b → SinkEnded (first ++ more) true a b
-sink-first first more a b p =
-    let within = p.holds.within in
-    let longer = length-append first more in
-    record {
-      holds = record {
-        count = p.holds.count;
-        within = omega (arith, within, longer);
-        taken = p.holds.taken ∙ ap (extended a.contents) (sym (take-append-le p.holds.count first more (omega (arith, within))));
-      };
-      counted = p.counted;
-      blamed = λ is guaranteed. p.blamed is (omega (arith, guaranteed, longer));
-      left = λ is. absurd (true≢false is);
-    }
+sink-first = grind (arith, common_steps)
 
 -- what was put since a line was begun
 module _ (job : LineJob) (begun : SinkState) (a b : Line) (o p : SinkState) (way : IsUnderWay job begun a o) where
@@ -139,49 +78,89 @@ module _ (job : LineJob) (begun : SinkState) (a b : Line) (o p : SinkState) (way
     put = put-more reached.0 reached.1;
   }
 
-pub way-stops : (job : LineJob) (begun : SinkState) (a b : Line) (o p : SinkState) → IsUnderWay job begun a o → LineStops a b o p
-    → SinkEnded (stream job (last_machine job)) true begun p
-way-stops job begun a b o p way stopped =
-    let written = written_in job (stopped.to way.turned) in
-    let next = stopped.next job way.turned way.stands in
-    let byte = stopped.byte in
-    rw (append_assoc written (byte ∷ []) next.0 ∙ sym next.1) at
-    (sink-first (written ++ byte ∷ []) next.0 begun p
-    (sink-then written (byte ∷ []) true begun stopped.here p (put-more job begun a b o stopped.here way stopped.to stopped.goes) stopped.put))
-
--- a machine that waits is idle, and its run goes on
-pub waiting_idle : (job : LineJob) (line : Line) (turned : Turned) (machine : ℕ) → IsWaiting job line turned machine
-    → (machine_place job turned machine).left ≡ 0
-waiting_idle job line turned zero waits = absurd waits
-waiting_idle job line turned (suc before) waits = waits.idle
-
-pub waiting_goes : (job : LineJob) (line : Line) (turned : Turned) (machine : ℕ) → IsWaiting job line turned machine
-    → PlaceHasEnded (machine_place job turned machine) → ⊥
-waiting_goes job line turned zero waits = absurd waits
-waiting_goes job line turned (suc before) waits = waits.goes_on
+pub way-fails : (job : LineJob) (begun : SinkState) (machine : ℕ) (a b : Line) (o p : SinkState) → IsUnderWay job begun a o
+    → Fails machine a b o p → SinkEnded (stream job (last_machine job)) true begun p
+way-fails job begun machine a b o p way fails =
+    let written = written_in job way.turned in
+    let next = goes-on-with job a way.turned machine fails.byte way.stands (fails.cause job way.turned way.stands) in
+    rw (append_assoc written (fails.byte ∷ []) next.0 ∙ sym next.1) at
+    (sink-first (written ++ fails.byte ∷ []) next.0 begun p (sink-then written (fails.byte ∷ []) true begun o p way.put fails.put))
 
 -- a turn, by what is said of it
-module _ (machine : ℕ) (line line_now : Line) (out out_now : SinkState) where
-  abbrev pub Comes : Result Moved Failed → Type 0
-  Comes result = TurnCame machine line line_now out out_now result
+pub turn-way : (machine : ℕ) (line line_now : Line) (out out_now : SinkState) (result : Result Moved Failed)
+    → TurnCame machine line line_now out out_now result → (job : LineJob) (begun : SinkState) → IsUnderWay job begun line out
+    → StaysUnderWay job begun line_now out_now (is_err result)
+turn-way machine line line_now out out_now (Ok moved) turn job begun way =
+    way-on job begun line line_now out out_now way (turn-reaches machine moved line line_now out out_now turn)
+turn-way machine line line_now out out_now (Err failed) fails job begun way = way-fails job begun machine line line_now out out_now way fails
 
-  pub turn-way : (result : Result Moved Failed) → Comes result → (job : LineJob) (begun : SinkState) → IsUnderWay job begun line out
-      → StaysUnderWay job begun line_now out_now (is_err result)
-  turn-way (Ok moved) came job begun way = way-on job begun line line_now out out_now way
-      (turn-went machine line line_now out out_now (Ok moved) came)
-  turn-way (Err failed) fails job begun way =
-      way-stops job begun line line_now out out_now way (turn-went machine line line_now out out_now (Err failed) fails)
+-- how much is left of the turns of the first machine that moves: each move makes the work less, where a machine moves no more the first
+-- one is next, and a machine that is still is passed over
+abbrev pub turns_left : Line → Bool → ℕ → ℕ
+turns_left line moved index =
+    (2 * work_left line + cond moved 1 0) * (length line.members.items + 1) + (length line.members.items - index)
 
--- a machine that is still in a line where nothing was moved so far was so at the beginning
-pub still-since : (moved : Bool) (begun line : Line) (machine : ℕ) → moved ≡ false → WorksOn moved begun line → IsStill line machine
-    → IsStill begun machine
-still-since true begun line machine is works still = absurd (cc)
-still-since false begun line machine is works still = (rw works at still)
+fewer-left : (machines index index_now less more : ℕ) → less < more
+    → less * (machines + 1) + (machines - index_now) < more * (machines + 1) + (machines - index)
+fewer-left = grind (arith, common_steps)
 
--- one machine more was given turns
-pub still-more : (begun : Line) (index : ℕ) → ((machine : ℕ) → machine < index → IsStill begun machine) → IsStill begun index
-    → (machine : ℕ) → machine < index + 1 → IsStill begun machine
-still-more begun index before last machine within = elim (cases_eq machine index) [
-  | inl same ↦ (rw same last)
-  | inr apart ↦ before machine (omega (arith, within, apart))
-]
+pub turn-less : (line now : Line) (index : ℕ) (moves moved : Bool) → index < length line.members.items → WorksOn moves line now
+    → length now.members.items ≡ length line.members.items → turns_left now moves (next_machine index moves moved) < turns_left line moved index
+turn-less line now index true moved within works same = rw same (fewer-left _ index index (2 * work_left now + 1) _ (omega arith))
+turn-less line now index false true within works same =
+    rw works (fewer-left _ index 0 (2 * work_left line + 0) (2 * work_left line + 1) (omega arith))
+turn-less line now index false false within works same = rw works (omega arith)
+
+-- the machines before the one that gets the next turn are still
+pub turn-still : (line now : Line) (index : ℕ) (moved : Bool) → (moved ≡ false → (machine : ℕ) → machine < index → IsStill line machine)
+    → IsStill line index → now ≡ line → (machine : ℕ) → machine < next_machine index false moved → IsStill now machine
+turn-still line now index true before still same machine within = absurd (omega arith)
+turn-still line now index false before still same machine within = rw same (below_more (IsStill line) index (before refl) still machine within)
+
+-- where no machine of a line moves all their runs are over
+module _ (job : LineJob) (line : Line) (turned : Turned) (stands : LineRepresents job line turned)
+    (still : (machine : ℕ) → machine < length line.members.items → IsStill line machine) where
+  still-at : (machine : ℕ) → machine < length job.roms → (IsWaiting job line turned machine → ⊥) → (MachineIsHeld job line turned machine → ⊥)
+      → PlaceHasEnded (machine_place job turned machine)
+  still-at machine within = still machine (omega arith) job turned stands
+
+  -- from the last machine on none is held
+  none-held : (behind machine : ℕ) → machine + suc behind ≡ length job.roms → MachineIsHeld job line turned machine → ⊥
+  none-held zero machine last held = omega arith
+  none-held (suc behind) machine last held = held.goes_on (still-at (suc machine) (omega arith)
+      (λ waits. let empty : length (ring_before line (suc machine)) ≡ 0 = ap length waits.nothing in omega arith)
+      (none-held behind (suc machine) (omega arith)))
+
+  -- so from the first one on all are at their end
+  all-over : (machine : ℕ) → machine < length job.roms → PlaceHasEnded (machine_place job turned machine)
+  all-over zero within = still-at zero within (λ waits. waits.comes) (none-held (length job.roms - 1) zero (omega arith))
+  all-over (suc machine) within = still-at (suc machine) within (λ waits. waits.comes (all-over machine (omega arith)))
+      (none-held (length job.roms - suc (suc machine)) (suc machine) (omega arith))
+
+-- a line of which no machine moves is at the end of all runs
+pub still-finishes : (first line : Line) (begun out : SinkState) (code : ℕ) → LineReaches first line begun out
+    → ((machine : ℕ) → machine < length line.members.items → IsStill line machine)
+    → ((job : LineJob) (turned : Turned) → LineRepresents job line turned → (machine_place job turned (last_machine job)).left ≡ 0
+    → code ≡ exit_code_at (machine_place job turned (last_machine job)).done.last)
+    → LineFinishes first line begun out code
+still-finishes first line begun out code went still codes = record {
+  to = went.0;
+  goes = went.1;
+  over = λ job begun_at stands.
+      let turned = went.0 begun_at in
+      let at = (went.1.leads job begun_at stands).0 in
+      let over = all-over job line turned at still in
+      let last = over (last_machine job) (omega arith) in
+      record {
+        ended = λ machine within. (over machine within, (ended-whole job at.job_is machine (turned machine) (over machine within)).1);
+        whole = (ended-whole job at.job_is (last_machine job) (turned (last_machine job)) last).0;
+        code_is = codes job turned at last.0
+            ∙ ap exit_code_at (ended-whole job at.job_is (last_machine job) (turned (last_machine job)) last).1;
+      };
+}
+
+-- of a line under way
+pub finish-put : (job : LineJob) (begun : SinkState) (a b : Line) (o p : SinkState) (code : ℕ) → IsUnderWay job begun a o → LineFinishes a b o p code
+    → SinkEnded (stream job (last_machine job)) false begun p
+finish-put job begun a b o p code way done =
+    rw (done.over job way.turned way.stands).whole at (put-more job begun a b o p way done.to done.goes)

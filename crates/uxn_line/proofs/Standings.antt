@@ -1,19 +1,24 @@
 -- A line in which one machine had a turn more represents one more of it.
-use Rattle.uxn_line.proofs.Common.{◌≡◌, ◌≢◌, ℕ, zero, suc, ◌==◌, ◌&&◌, ◌||◌, ◌↔◌, inl, inr, true, false, cond, List, [], ◌++◌, length, refl}
-use Rattle.uxn_line.proofs.Common.{sym, ap, ◌∙◌, arith, append_assoc, cases_Bool, cases_eq, Some, slice_get, nat_tests, Line, Member, Place}
-use Rattle.uxn_line.proofs.Common.{PlaceHasEnded, turn, put_in, LineJob, after, MemberAt, member_has_ended, Turned, one_more, machine_place}
-use Rattle.uxn_line.proofs.Common.{Between, InLine, LineRepresents}
-use Rattle.std.proofs.lemmas.Bool.{or_cases, or_right}
-use Rattle.uxn_line.proofs.Coming.{come-more}
+use Rattle.uxn_line.proofs.Common.{common_steps, handed, handed_at, ◌≡◌, ◌≢◌, ℕ, zero, suc, ◌↔◌, inl, inr, Bool, true, false, cond, List, [], ◌++◌}
+use Rattle.uxn_line.proofs.Common.{length, sym, ap, ◌∙◌, arith, cases_eq, Some, slice_get, slice_set, Line, Member, Place, length-set}
+use Rattle.uxn_line.proofs.Common.{slice_get_within, slice_get-set_same, slice_get-set_other, Buffer, PendingInput, KeepsRing, PlaceHasEnded, turn}
+use Rattle.uxn_line.proofs.Common.{put_in, LineJob, after, MemberAt, member_has_ended, Turned, one_more, machine_place, ComeAfter, RingBefore, InLine}
+use Rattle.uxn_line.proofs.Common.{LineRepresents, AreForConsole}
+use Rattle.uxn_line.proofs.Handed.{handed-length, handed-other, handed-same}
+
+-- where a machine stands after one turn more, in which it writes these bytes to port 18
+abbrev pub next_of : LineJob → Turned → ℕ → Place
+next_of job turned machine = turn job.budget (machine_place job turned machine)
+
+abbrev pub Writes : LineJob → Turned → ℕ → List ℕ → Type 0
+Writes job turned machine bytes = put_in (next_of job turned machine) ≡ put_in (machine_place job turned machine) ++ bytes
 
 -- one more turn
 pub more-here : (machine : ℕ) (turned : Turned) → one_more machine turned machine ≡ suc (turned machine)
-more-here machine turned =
-    let same : (machine == machine) ≡ true = grind (arith, nat_tests) in ap (λ b. cond b (suc (turned machine)) (turned machine)) same
+more-here = grind (arith, common_steps)
 
 pub more-apart : (machine : ℕ) (turned : Turned) (other : ℕ) → other ≢ machine → one_more machine turned other ≡ turned other
-more-apart machine turned other apart =
-    let test : (other == machine) ≡ false = grind (arith, nat_tests, apart) in ap (λ b. cond b (suc (turned other)) (turned other)) test
+more-apart = grind (arith, common_steps)
 
 pub place-more : (job : LineJob) (machine : ℕ) (turned : Turned)
     → machine_place job (one_more machine turned) machine ≡ turn job.budget (machine_place job turned machine)
@@ -25,100 +30,111 @@ place-apart job machine turned other apart = ap (after job other) (more-apart ma
 
 -- a machine is known to be at its end
 pub ended-is : (member : Member) (now : Place) → MemberAt member now → (member_has_ended member ≡ true) ↔ PlaceHasEnded now
-ended-is member now at = (
-  λ ended.
-      let idle : member.machine.left ≡ 0 = elim (cases_Bool (member.machine.left == 0)) [
-        | inl none ↦ grind (arith, nat_tests, none)
-        | inr some ↦ absurd (let e = sym ended ∙ ap (λ b. b && (member.stopped || member.all_given)) some in cc)
-      ] in
-      let left = sym at.stands.left ∙ idle in
-      let none : (member.machine.left == 0) ≡ true = grind (arith, nat_tests, idle) in
-      let both : (member.stopped || member.all_given) ≡ true = ap (λ b. b && (member.stopped || member.all_given)) (sym none) ∙ ended in (
-        left,
-        elim (or_cases member.stopped member.all_given both) [
-          | inl stopped ↦ inl (sym (at.stopped left) ∙ stopped)
-          | inr given ↦ inr (at.given.0 given)
-        ],
-      ),
-  λ over.
-      let idle = at.stands.left ∙ over.0 in
-      let none : (member.machine.left == 0) ≡ true = grind (arith, nat_tests, idle) in
-      ap (λ b. b && (member.stopped || member.all_given)) none
-      ∙ elim over.1 [
-        | inl stopped ↦ ap (λ b. b || member.all_given) (at.stopped over.0 ∙ stopped)
-        | inr given ↦ or_right member.stopped member.all_given (at.given.1 given)
-      ],
-)
+ended-is member now at = grind (arith, common_steps)
 
 pub not-ended : (member : Member) (now : Place) → MemberAt member now → member_has_ended member ≡ false → PlaceHasEnded now → ⊥
 not-ended member now at goes ended = let e = (ended-is member now at).1 ended in cc
 
 pub goes-on : (member : Member) (now : Place) → MemberAt member now → (PlaceHasEnded now → ⊥) → member_has_ended member ≡ false
-goes-on member now at goes = elim (cases_Bool (member_has_ended member)) [
-  | inl ended ↦ absurd (goes ((ended-is member now at).0 ended))
-  | inr is ↦ is
-]
+goes-on = grind (arith, common_steps)
 
 -- a machine whose turns, and those of the one before it, are the same is in line as before
-pub in-line-same : (job : LineJob) (turned now : Turned) (machine : ℕ) (member : Member) → now machine ≡ turned machine
-    → ((before : ℕ) → machine ≡ suc before → now before ≡ turned before) → InLine job turned machine member → InLine job now machine member
-in-line-same job turned now zero member same before inline =
-    record { stands = rw same inline.stands; ring = inline.ring; room = inline.room; within = inline.within }
-in-line-same job turned now (suc machine) member same before inline =
-    record {
-      stands = rw same inline.stands;
-      ring = rw same (rw (before machine refl) inline.ring);
-      room = inline.room;
-      within = inline.within;
-    }
+ring-same : (over : Bool) (job : LineJob) (turned now : Turned) (machine : ℕ) (ring : List ℕ) → now machine ≡ turned machine
+    → ((before : ℕ) → machine ≡ suc before → now before ≡ turned before) → RingBefore over job turned machine ring
+    → RingBefore over job now machine ring
+ring-same = grind (arith, common_steps)
 
--- the ring behind a machine that wrote so many bytes more, which the next one keeps or drops
-pub ring-grows : (job : LineJob) (machine count count_now next : ℕ) (ring ring_now bytes : List ℕ)
-    → (PlaceHasEnded (after job (suc machine) next) → ring_now ≡ []) → ((PlaceHasEnded (after job (suc machine) next) → ⊥) → ring_now ≡ ring ++ bytes)
-    → put_in (after job machine count_now) ≡ put_in (after job machine count) ++ bytes
-    → Between job machine count next ring → Between job machine count_now next ring_now
-ring-grows job machine count count_now next ring ring_now bytes drops keeps put between = record {
-  dropped = drops;
-  to_come = λ goes rest whole.
-      rw (keeps goes) (come-more ring bytes rest (after job (suc machine) next).pending_inputs (between.to_come goes (bytes ++ rest)
-      (whole ∙ ap (λ all. all ++ rest) put ∙ append_assoc (put_in (after job machine count)) bytes rest)));
-}
+-- what is left to a machine that had one more turn: of its ring, and of the script
+abbrev pub Leaves : LineJob → Turned → ℕ → List ℕ → List PendingInput → List PendingInput → List PendingInput → Type 0
+Leaves job turned zero items later script script_now = (items ≡ []) × (script_now ≡ later)
+Leaves job turned (suc before) items later script script_now = ComeAfter job before (turned before) items later × (script_now ≡ script)
 
--- all machines of a line where one had a turn more
-pub record OneMore (job : LineJob) (turned : Turned) (machine : ℕ) (line line_now : Line) : Type 0 where
-  pub member : Member
-  pub here : slice_get line_now.members.items machine ≡ Some member
-  pub own : InLine job (one_more machine turned) machine member
-  pub behind : (next : Member) → slice_get line_now.members.items (suc machine) ≡ Some next → InLine job (one_more machine turned) (suc machine) next
-  pub apart : (other : ℕ) → other ≢ machine → other ≢ suc machine → slice_get line_now.members.items other ≡ slice_get line.members.items other
-  pub count : length line_now.members.items ≡ length line.members.items
+ring-more : (over : Bool) (job : LineJob) (turned : Turned) (machine : ℕ) (items : List ℕ) (script script_now : List PendingInput)
+    → Leaves job turned machine items (next_of job turned machine).pending_inputs script script_now
+    → RingBefore over job (one_more machine turned) machine (cond over [] items)
+ring-more = grind (arith, common_steps)
+
+script-more : (job : LineJob) (turned : Turned) (machine : ℕ) (items : List ℕ) (script script_now : List PendingInput)
+    → Leaves job turned machine items (next_of job turned machine).pending_inputs script script_now
+    → script ≡ (machine_place job turned 0).pending_inputs → script_now ≡ (machine_place job (one_more machine turned) 0).pending_inputs
+script-more = grind (arith, common_steps)
+
+-- the ring behind a machine that wrote these bytes more
+ring-behind : (over : Bool) (job : LineJob) (turned : Turned) (machine : ℕ) (ring bytes : List ℕ) → Writes job turned machine bytes
+    → RingBefore over job turned (suc machine) ring → RingBefore over job (one_more machine turned) (suc machine) (cond over ring (ring ++ bytes))
+ring-behind = grind (arith, common_steps)
+
+-- a line in which a machine became another by a turn, and the next one was handed bytes
+pub record Moves (line line_now : Line) (machine : ℕ) (member now : Member) (bytes : List ℕ) : Type 0 where
+  pub at : slice_get line.members.items machine ≡ Some member
+  pub members : line_now.members.items ≡ slice_set (handed_at (suc machine) bytes line.members.items) machine now
   pub budget : line_now.budget ≡ line.budget
-  pub script : line_now.input_queue ≡ (machine_place job (one_more machine turned) 0).pending_inputs
 
-pub stands-more : (job : LineJob) (turned : Turned) (machine : ℕ) (line line_now : Line) → LineRepresents job line turned
-    → OneMore job turned machine line line_now → LineRepresents job line_now (one_more machine turned)
-stands-more job turned machine line line_now stands more =
-    let now = one_more machine turned in
+pub moves-count : (line line_now : Line) (machine : ℕ) (member now : Member) (bytes : List ℕ) → Moves line line_now machine member now bytes
+    → length line_now.members.items ≡ length line.members.items
+moves-count = grind (arith, common_steps, handed-length, length-set)
+
+-- such a turn, for the numbers of turns that the line represents
+pub record TurnsIn (job : LineJob) (turned : Turned) (line line_now : Line) (machine : ℕ) (member now : Member) (bytes : List ℕ) : Type 0 where
+  pub stands : MemberAt now (next_of job turned machine)
+  pub put : Writes job turned machine bytes
+  pub items : List ℕ
+  pub ring : KeepsRing member now items
+  pub left : Leaves job turned machine items (next_of job turned machine).pending_inputs line.input_queue line_now.input_queue
+  pub console : AreForConsole line_now.input_queue
+
+pub stands-more : (job : LineJob) (turned : Turned) (line line_now : Line) (machine : ℕ) (member now : Member) (bytes : List ℕ)
+    → LineRepresents job line turned → Moves line line_now machine member now bytes → TurnsIn job turned line line_now machine member now bytes
+    → LineRepresents job line_now (one_more machine turned)
+stands-more job turned line line_now machine member now bytes stands moves turns =
+    let items = line.members.items in
+    let all = handed_at (suc machine) bytes items in
+    let within = slice_get_within items machine member moves.at in
     record {
       job_is = stands.job_is;
       some = stands.some;
-      machines = more.count ∙ stands.machines;
-      budget = more.budget ∙ stands.budget;
-      script = more.script;
-      each = λ other member at.
+      machines = moves-count line line_now machine member now bytes moves ∙ stands.machines;
+      budget = moves.budget ∙ stands.budget;
+      script = script-more job turned machine turns.items line.input_queue line_now.input_queue turns.left stands.script;
+      console = turns.console;
+      each = λ other found at_now.
+          let at = ap (λ members. slice_get members other) (sym moves.members) ∙ at_now in
           elim (cases_eq other machine) [
-            | inl same ↦
-                let here = sym more.here ∙ ap (λ m. slice_get line_now.members.items m) (sym same) ∙ at in
-                let is : more.member ≡ member = cc in
-                rw same (rw is at more.own)
+            | inl here ↦
+                let set = slice_get-set_same all machine now (omega (arith, within, handed-length bytes (suc machine) items)) in
+                let same : now ≡ found = (let e = rw here at at in cc) in
+                let own : InLine job (one_more machine turned) machine now = record {
+                  stands = rw (place-more job machine turned) turns.stands;
+                  ring = rw turns.ring (ring-more (member_has_ended now) job turned machine turns.items line.input_queue line_now.input_queue
+                      turns.left);
+                  room = ap (λ (r : Buffer ℕ). r.capacity) turns.ring ∙ (stands.each machine member moves.at).room;
+                } in
+                rw here (rw (← same) own)
             | inr apart ↦
+                let there = sym (slice_get-set_other all machine other now apart) ∙ at in
                 elim (cases_eq other (suc machine)) [
-                  | inl next ↦
-                      rw next (more.behind member (ap (λ m. slice_get line_now.members.items m) (sym next) ∙ at))
+                  | inl behind ↦
+                      let was = handed-same bytes (suc machine) items found (rw behind at there) in
+                      let inline = stands.each (suc machine) was.0 was.1 in
+                      let more : InLine job (one_more machine turned) (suc machine) (handed bytes was.0) = record {
+                        stands = rw (place-apart job machine turned (suc machine) (λ same. omega arith)) (record {
+                          stands = inline.stands.stands;
+                          given = inline.stands.given;
+                          state = inline.stands.state;
+                        });
+                        ring = ring-behind (member_has_ended was.0) job turned machine was.0.ring.items bytes turns.put inline.ring;
+                        room = inline.room;
+                      } in
+                      rw behind (rw was.2 more)
                   | inr further ↦
-                      in-line-same job turned now other member (more-apart machine turned other apart)
-                      (λ before is. more-apart machine turned before (λ same. further (is ∙ ap suc same)))
-                      (stands.each other member (sym (more.apart other apart further) ∙ at))
+                      let inline = stands.each other found (sym (handed-other bytes (suc machine) other items further) ∙ there) in
+                      let same = more-apart machine turned other apart in
+                      record {
+                        stands = rw same inline.stands;
+                        ring = ring-same (member_has_ended found) job turned (one_more machine turned) other found.ring.items same
+                            (λ before is. more-apart machine turned before (λ same. further (is ∙ ap suc same))) inline.ring;
+                        room = inline.room;
+                      }
                 ]
           ];
     }

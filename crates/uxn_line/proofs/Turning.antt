@@ -1,23 +1,14 @@
 -- The turns of a machine, taken one after the other, are its run.
-use Rattle.uxn_line.proofs.Common.{◌≡◌, ℕ, zero, suc, List, [], ◌∷◌, ◌++◌, refl, ap, sym, ◌∙◌, map, append_assoc, Change, Input, EndInput, Trace}
-use Rattle.uxn_line.proofs.Common.{no_outputs, put_by, LineJob, AreOfConsole, IsJob, script_at, rom_at, stream, after}
+use Rattle.uxn_line.proofs.Common.{put_by_one, FollowsRun, new_machine, run_of_machine, ◌≡◌, ℕ, List, [], ◌∷◌, ◌++◌, refl, ap, sym, ◌∙◌, append-nil}
+use Rattle.uxn_line.proofs.Common.{append_assoc, Change, Trace, no_outputs, put_by, put_in, PlaceHasEnded, LineJob, IsJob, script_at, rom_at, stream}
+use Rattle.uxn_line.proofs.Common.{after}
 use Rattle.vector_loop.specs.Places.{run_left}
 use Rattle.vector_loop.specs.StepLaws.{ended-nothing, steps-are}
-use Rattle.uxn_line.specs.Places.{put_by_one}
-use Rattle.uxn_line.specs.Streams.{FollowsRun, new_machine, run_of_machine}
 
 pub put_by-append : (first more : List Change) → put_by (first ++ more) ≡ put_by first ++ put_by more
 put_by-append [] more = refl
 put_by-append (change ∷ first) more =
     ap (λ bytes. put_by_one change ++ bytes) (put_by-append first more) ∙ sym (append_assoc (put_by_one change) (put_by first) (put_by more))
-
-inputs-are : (bytes : List ℕ) → AreOfConsole (map (λ byte. Input byte) bytes ++ EndInput ∷ [])
-inputs-are [] = refl
-inputs-are (byte ∷ bytes) = inputs-are bytes
-
-pub script-is : (job : LineJob) → IsJob job → (machine : ℕ) → AreOfConsole (script_at job machine).events
-script-is job is zero = is.events
-script-is job is (suc machine) = inputs-are (stream job machine)
 
 pub follows : (job : LineJob) → IsJob job → (machine count : ℕ) → FollowsRun (after job machine count) (run_of_machine job machine)
 follows job is machine count =
@@ -33,3 +24,12 @@ follows job is machine count =
         ap (λ (t : Trace). t.last) (sym (steps.end count ended)),
       );
     }
+
+-- what is written at the end of a run is its whole stream
+pub ended-whole : (job : LineJob) → IsJob job → (machine count : ℕ) → PlaceHasEnded (after job machine count)
+    → (put_in (after job machine count) ≡ stream job machine) × ((after job machine count).done.last ≡ (run_of_machine job machine).last)
+ended-whole job is machine count ended =
+    let run = follows job is machine count in
+    let put = put_in (after job machine count) in
+    let end = run.end ended in
+    (sym (run.prefix ∙ ap (λ rest. put ++ rest) end.0 ∙ append-nil put), sym end.1)

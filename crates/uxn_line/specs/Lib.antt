@@ -5,4 +5,5 @@ pub mod Members
 pub mod MemberTurns
 pub mod Work
 pub mod Standing
+pub mod Handing
 pub mod Moves

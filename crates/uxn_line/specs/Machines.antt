@@ -1,8 +1,7 @@
 -- What a machine of a line represents (profile).
-use Rattle.std.specs.Prelude.{◌≡◌, ℕ, ◌==◌, List, [], ◌∷◌, None, if◌then◌else◌}
+use Rattle.std.specs.Prelude.{◌≡◌, ℕ, ◌==◌, List, [], ◌∷◌, ◌++◌, None, if◌then◌else◌}
 use Rattle.uxn_opcodes.specs.declared.Core.{Core}
-use Rattle.uxn_opcodes.specs.Rule.{opcode_at, begun}
-use Rattle.uxn_opcodes.specs.Model.{writes_in}
+use Rattle.varvara_bus.specs.Writes.{writes_at}
 use Rattle.varvara_bus.specs.declared.devices.Devices.{Devices}
 use Rattle.varvara_bus.specs.State.{DeviceState, DevicesRepresent, HasFiles}
 use Rattle.varvara_bus.specs.Effect.{Effect}
@@ -12,11 +11,11 @@ use Rattle.vector_loop.specs.Places.{Place}
 -- of bytes written to ports those written to port 18
 abbrev pub handed_in : List (ℕ × ℕ) → List ℕ
 handed_in [] = []
-handed_in (write ∷ writes) = if write.0 == 0x18 then write.1 ∷ handed_in writes else handed_in writes
+handed_in (write ∷ writes) = (if write.0 == 0x18 then write.1 ∷ [] else []) ++ handed_in writes
 
 -- the bytes that the next instruction writes to port 18, one at most: DEO at 18, and DEO2 at 17 and 18
 unfoldable pub handed_on : Core → List ℕ
-handed_on core = if opcode_at core == 0 then [] else handed_in (writes_in (begun core).access)
+handed_on core = handed_in (writes_at core)
 
 -- devices without a root and without a tree represent a state
 pub record Rests (held : Devices) (state : DeviceState) : Type 0 where

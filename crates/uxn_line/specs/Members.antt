@@ -1,40 +1,54 @@
 -- What a machine in a line represents, with what was handed to it (profile).
-use Rattle.std.specs.Prelude.{◌≡◌, ◌↔◌, ℕ, ◌==◌, ◌&&◌, ◌||◌, ◌<◌, Bool, true, false, List, []}
-use Rattle.std.specs.Prelude.{◌∷◌, Some, slice_get}
+use Rattle.std.specs.Prelude.{◌≡◌, ◌↔◌, ℕ, zero, suc, ◌==◌, ◌&&◌, ◌||◌, not, if◌then◌else◌}
+use Rattle.std.specs.Prelude.{Bool, true, false, List, [], ◌∷◌, ◌++◌, Option, Some}
+use Rattle.std.specs.Prelude.{None, slice_get}
+use Rattle.circular_buffer.specs.Buffer.{buffer}
 use Rattle.play_script.specs.declared.script.Event.TheVariants.{Input, EndInput}
-use Rattle.vector_loop.specs.State.{is_over}
+use Rattle.play_script.specs.declared.script.Clock.{Clock}
+use Rattle.play_script.specs.Scripts.{ScriptView}
+use Rattle.vector_loop.specs.PendingInputs.{pending_inputs_of}
+use Rattle.varvara_bus.specs.History.{stored}
 use Rattle.uxn_line.specs.declared.member.Member.{Member}
 use Rattle.vector_loop.specs.declared.pending_input.PendingInput.{PendingInput}
 use Rattle.vector_loop.specs.declared.pending_input.PendingInput.TheVariants.{OfEvent}
 use Rattle.vector_loop.specs.Places.{Place}
-use Rattle.uxn_line.specs.Machines.{MachineRepresents, handed_on}
+use Rattle.uxn_line.specs.Machines.{MachineRepresents}
 use Rattle.uxn_line.specs.declared.line.Line.{Line}
 
--- its machine stands at a place of a run; it is known whether all was given, and of an idle machine whether its state ended the run
+-- its machine stands at a place of a run; it is known whether all was given, and of an idle machine its state
 pub record MemberAt (member : Member) (now : Place) : Type 0 where
   pub stands : MachineRepresents member.machine now
   pub given : (member.all_given ≡ true) ↔ (now.pending_inputs ≡ [])
-  pub stopped : now.left ≡ 0 → member.stopped ≡ is_over now.done.last
+  pub state : now.left ≡ 0 → member.state ≡ stored now.done.last.devices.history 0x0f
+
+-- a machine of a script has these arguments and this clock, and whether nothing is given to it
+pub record BeginsWith (script : ScriptView) (texts : List (List ℕ)) (clock : Clock) (all_given : Bool) : Type 0 where
+  pub arguments_are : script.arguments ≡ texts
+  pub clock_is : script.clock ≡ clock
+  pub given : (all_given ≡ true) ↔ (pending_inputs_of script ≡ [])
 
 -- its run is over
 abbrev pub member_has_ended : Member → Bool
-member_has_ended member = member.machine.left == 0 && (member.stopped || member.all_given)
+member_has_ended member = member.machine.left == 0 && (not (member.state == 0) || member.all_given)
 
--- what comes next to a machine of whose ring this is left, where it waits for nothing: the first byte, or the end
-abbrev pub next_pending : List ℕ → PendingInput
-next_pending [] = OfEvent EndInput
-next_pending (byte ∷ bytes) = OfEvent (Input byte)
+-- what comes next to a machine of whose ring this is the first byte, where it waits for nothing: the byte, or the end where there is none
+abbrev pub next_pending : Option ℕ → PendingInput
+next_pending None = OfEvent EndInput
+next_pending (Some byte) = OfEvent (Input byte)
 
--- a machine at a place of a line is in a vector, and its next instruction writes these bytes to port 18
-pub record RunsAt (bytes : List ℕ) (line : Line) (machine : ℕ) (member : Member) : Type 0 where
-  pub there : slice_get line.members.items machine ≡ Some member
-  pub vector : 0 < member.machine.left
-  pub writes : handed_on member.machine.core ≡ bytes
+-- once it was handed bytes its ring holds them too, unless its run is over
+abbrev pub handed : List ℕ → Member → Member
+handed bytes member = record member {
+  ring = buffer (if member_has_ended member then member.ring.items else member.ring.items ++ bytes) member.ring.capacity;
+}
 
-abbrev pub IsRunning : List ℕ → Line → ℕ → Type 0
-IsRunning bytes line machine = (member : Member) × RunsAt bytes line machine member
+-- the machines of a line once the one at a place was handed bytes, if there is one
+abbrev pub handed_at : ℕ → List ℕ → List Member → List Member
+handed_at place bytes [] = []
+handed_at zero bytes (member ∷ members) = handed bytes member ∷ members
+handed_at (suc place) bytes (member ∷ members) = member ∷ handed_at place bytes members
 
--- it is idle, and its run is not over
+-- a machine at a place of a line is idle, and its run is not over
 pub record OpenAt (line : Line) (machine : ℕ) (member : Member) : Type 0 where
   pub there : slice_get line.members.items machine ≡ Some member
   pub idle : member.machine.left ≡ 0

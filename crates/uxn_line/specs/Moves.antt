@@ -1,6 +1,6 @@
--- What the turns of a line come to, and what they put (profile).
-use Rattle.std.specs.Prelude.{◌≡◌, ◌≢◌, ℕ, zero, suc, ◌-◌, ◌<◌, ◌≤◌, Bool, true, false, List, []}
-use Rattle.std.specs.Prelude.{◌∷◌, ◌++◌, ◌⊎◌, length, slice_get}
+-- What the turns of a line result in, and what they put (profile).
+use Rattle.std.specs.Prelude.{◌≡◌, ◌≢◌, ℕ, zero, suc, ◌-◌, ◌+◌, ◌<◌, ◌≤◌, Bool, true, false}
+use Rattle.std.specs.Prelude.{List, [], ◌∷◌, ◌++◌, if◌then◌else◌, length, slice_get}
 use Rattle.std.specs.Prelude.{Option, Some, None, Result, Ok, Err}
 use Rattle.uxn_io_traits.specs.Ended.{SinkEnded}
 use Rattle.uxn_io_traits.specs.State.{SinkState}
@@ -24,18 +24,19 @@ ring_of None = []
 abbrev pub ring_before : Line → ℕ → List ℕ
 ring_before line machine = ring_of (slice_get line.members.items machine)
 
--- a machine waits that is not the first and is idle, whose ring is empty, and neither its run nor that of the machine before it is over
-pub record WaitsBehind (job : LineJob) (line : Line) (turned : Turned) (before : ℕ) : Type 0 where
-  pub goes_on : PlaceHasEnded (machine_place job turned (suc before)) → ⊥
-  pub idle : (machine_place job turned (suc before)).left ≡ 0
-  pub nothing : ring_before line (suc before) ≡ []
-  pub comes : PlaceHasEnded (machine_place job turned before) → ⊥
+-- the run of the machine before one goes on; before the first one there is none
+abbrev pub MoreComes : LineJob → Turned → ℕ → Type 0
+MoreComes job turned zero = ⊥
+MoreComes job turned (suc before) = PlaceHasEnded (machine_place job turned before) → ⊥
 
-abbrev pub IsWaiting : LineJob → Line → Turned → ℕ → Type 0
-IsWaiting job line turned zero = ⊥
-IsWaiting job line turned (suc before) = WaitsBehind job line turned before
+-- a machine waits: it is not the first, it is idle, its ring is empty, and neither its run nor that of the machine before it is over
+pub record IsWaiting (job : LineJob) (line : Line) (turned : Turned) (machine : ℕ) : Type 0 where
+  pub goes_on : PlaceHasEnded (machine_place job turned machine) → ⊥
+  pub idle : (machine_place job turned machine).left ≡ 0
+  pub nothing : ring_before line machine ≡ []
+  pub comes : MoreComes job turned machine
 
--- a machine is held that is in a vector, whose next instruction writes port 18, behind which there is a machine whose run is not over,
+-- a machine is held: it is in a vector, and its next instruction writes port 18; behind it there is a machine whose run is not over,
 -- and the ring between them holds 256 bytes
 pub record MachineIsHeld (job : LineJob) (line : Line) (turned : Turned) (machine : ℕ) : Type 0 where
   pub vector : 1 ≤ (machine_place job turned machine).left
@@ -43,14 +44,6 @@ pub record MachineIsHeld (job : LineJob) (line : Line) (turned : Turned) (machin
   pub there : suc machine < length job.roms
   pub goes_on : PlaceHasEnded (machine_place job turned (suc machine)) → ⊥
   pub full : length (ring_before line (suc machine)) ≡ 256
-
--- the numbers after a turn that came to this
-abbrev pub turned_by : Moved → ℕ → Turned → Turned
-turned_by Ran machine turned = one_more machine turned
-turned_by Gave machine turned = one_more machine turned
-turned_by Waits machine turned = turned
-turned_by Held machine turned = turned
-turned_by Ended machine turned = turned
 
 -- the machine moved
 abbrev pub is_move : Moved → Bool
@@ -60,17 +53,16 @@ is_move Waits = false
 is_move Held = false
 is_move Ended = false
 
+-- how many turns each machine was given, after a turn with this answer
+abbrev pub turned_by : Moved → ℕ → Turned → Turned
+turned_by moved machine turned = if is_move moved then one_more machine turned else turned
+
 -- the last machine, and what it has written to port 18
 abbrev pub last_machine : LineJob → ℕ
 last_machine job = length job.roms - 1
 
 abbrev pub written_in : LineJob → Turned → List ℕ
 written_in job turned = put_in (machine_place job turned (last_machine job))
-
--- no turn of a machine moves anything, for whatever numbers of turns the line stands
-abbrev pub IsStill : Line → ℕ → Type 0
-IsStill line machine = (job : LineJob) (turned : Turned) → LineRepresents job line turned
-    → IsWaiting job line turned machine ⊎ (MachineIsHeld job line turned machine ⊎ PlaceHasEnded (machine_place job turned machine))
 
 -- a machine runs that is in a vector and is not held
 pub record LineRuns (job : LineJob) (line : Line) (turned : Turned) (machine : ℕ) : Type 0 where
@@ -83,7 +75,7 @@ pub record IsGiven (job : LineJob) (line : Line) (turned : Turned) (machine : �
   pub goes_on : PlaceHasEnded (machine_place job turned machine) → ⊥
   pub comes : IsWaiting job line turned machine → ⊥
 
--- why a turn came to this
+-- why a turn has this answer
 abbrev pub Cause : LineJob → Line → Turned → ℕ → Moved → Type 0
 Cause job line turned machine Ran = LineRuns job line turned machine
 Cause job line turned machine Gave = IsGiven job line turned machine
@@ -91,7 +83,7 @@ Cause job line turned machine Waits = IsWaiting job line turned machine
 Cause job line turned machine Held = MachineIsHeld job line turned machine
 Cause job line turned machine Ended = PlaceHasEnded (machine_place job turned machine)
 
--- for all numbers of turns for which a line stood it represents those that they come to, and its last machine has written these bytes more
+-- a line that represented numbers of turns represents those that follow, and its last machine has written these bytes more
 abbrev pub Leads : (Turned → Turned) → List ℕ → Line → Line → Type 0
 Leads to bytes before now = (job : LineJob) (turned : Turned) → LineRepresents job before turned
     → LineRepresents job now (to turned) × (written_in job (to turned) ≡ written_in job turned ++ bytes)
@@ -147,6 +139,12 @@ StaysUnderWay job begun line now true = SinkEnded (stream job (last_machine job)
 abbrev pub LineReaches : Line → Line → SinkState → SinkState → Type 0
 LineReaches before now out out_now = (to : Turned → Turned) × Goes to before now out out_now
 
+-- the machine that gets the next turn, by whether this one moved now, and whether it did in the turn before
+abbrev pub next_machine : ℕ → Bool → Bool → ℕ
+next_machine index true moved = index
+next_machine index false true = 0
+next_machine index false false = index + 1
+
 -- every machine stands at the end of its run
 abbrev pub AllEnded : LineJob → Turned → Type 0
 AllEnded job turned = (machine : ℕ) → machine < length job.roms
@@ -164,23 +162,12 @@ pub record LineFinishes (before now : Line) (out out_now : SinkState) (code : �
   pub goes : Goes to before now out out_now
   pub over : (job : LineJob) (turned : Turned) → LineRepresents job before turned → IsOver job (to turned) code
 
--- the stream of the last machine goes on with this byte
-abbrev pub GoesOnWith : LineJob → Turned → ℕ → Type 0
-GoesOnWith job turned byte = (rest : List ℕ) × (stream job (last_machine job) ≡ written_in job turned ++ byte ∷ rest)
-
--- it was stopped where the next byte of that stream was not taken: all before it was put
+-- some turns were given, and what the last machine wrote was put; then a turn failed
 pub record LineStops (before now : Line) (out out_now : SinkState) : Type 0 where
-  pub to : Turned → Turned
   pub here : SinkState
-  pub goes : Goes to before now out here
-  pub byte : ℕ
-  pub next : (job : LineJob) (turned : Turned) → LineRepresents job before turned → GoesOnWith job (to turned) byte
-  pub put : SinkEnded (byte ∷ []) true here out_now
-
--- what came of giving machines turns as long as they move
-abbrev pub Went : {X : Type 0} → Line → Line → SinkState → SinkState → Result X Failed → Type 0
-Went before now out out_now (Ok moved) = LineReaches before now out out_now
-Went before now out out_now (Err failed) = LineStops before now out out_now
+  pub reaches : LineReaches before now out here
+  pub machine : ℕ
+  pub fails : Fails machine now now here out_now
 
 -- whatever turns were given to a line: what each machine has written to port 18 is a prefix of its stream, and all of it where its run is over
 pub record StreamLaw : Type 0 where

@@ -1,18 +1,18 @@
--- For which numbers of turns a line of machines stands (profile).
-use Rattle.std.specs.Prelude.{◌≡◌, ℕ, zero, suc, ◌==◌, ◌≤◌, ◌⊎◌, if◌then◌else◌, List, []}
-use Rattle.std.specs.Prelude.{◌∷◌, ◌++◌, length, map, slice_get, Some}
+-- Which numbers of turns a line of machines represents (profile).
+use Rattle.std.specs.Prelude.{◌≡◌, ℕ, zero, suc, ◌==◌, ◌≤◌, ◌⊎◌, if◌then◌else◌, Bool, true}
+use Rattle.std.specs.Prelude.{false, List, [], ◌∷◌, ◌++◌, length, map, slice_get, Some}
 use Rattle.play_script.specs.declared.script.Event.TheVariants.{Input, EndInput}
 use Rattle.play_script.specs.Held.{bytes_in}
 use Rattle.play_script.specs.Scripts.{ScriptView}
 use Rattle.uxn_io_traits.specs.ByteList.{ByteList}
 use Rattle.uxn_line.specs.declared.line.Line.{Line}
 use Rattle.uxn_line.specs.declared.member.Member.{Member}
-use Rattle.vector_loop.specs.Places.{Place, PlaceHasEnded}
-use Rattle.uxn_line.specs.Places.{put_in}
+use Rattle.vector_loop.specs.Places.{Place}
+use Rattle.uxn_line.specs.Places.{AreForConsole, put_in}
 use Rattle.vector_loop.specs.declared.pending_input.PendingInput.{PendingInput}
 use Rattle.vector_loop.specs.declared.pending_input.PendingInput.TheVariants.{OfEvent}
 use Rattle.uxn_line.specs.Streams.{LineJob, IsJob, stream, after}
-use Rattle.uxn_line.specs.Members.{MemberAt}
+use Rattle.uxn_line.specs.Members.{MemberAt, member_has_ended}
 
 -- how many turns each machine was given; machines are counted from 0
 abbrev pub Turned : Type 0
@@ -42,32 +42,27 @@ abbrev pub ComeAfter : LineJob → ℕ → ℕ → List ℕ → List PendingInpu
 ComeAfter job machine count ring pending_inputs =
     (rest : List ℕ) → stream job machine ≡ put_in (after job machine count) ++ rest → AreToCome ring rest pending_inputs
 
--- the ring between a machine after so many turns and the next one after so many: it holds what this one has written to port 18 and the next
--- one was not given, or nothing where the run of the next one is over
-pub record Between (job : LineJob) (machine count next : ℕ) (ring : List ℕ) : Type 0 where
-  pub dropped : PlaceHasEnded (after job (suc machine) next) → ring ≡ []
-  pub to_come : (PlaceHasEnded (after job (suc machine) next) → ⊥)
-      → ComeAfter job machine count ring (after job (suc machine) next).pending_inputs
-
--- the ring before a machine; before the first one there is nothing
-abbrev pub RingBefore : LineJob → Turned → ℕ → List ℕ → Type 0
-RingBefore job turned zero ring = ring ≡ []
-RingBefore job turned (suc machine) ring = Between job machine (turned machine) (turned (suc machine)) ring
+-- the ring before a machine, by whether the run of that is over: what the one before it has written to port 18 and it was not given, or
+-- nothing where its run is over, and before the first one
+abbrev pub RingBefore : Bool → LineJob → Turned → ℕ → List ℕ → Type 0
+RingBefore true job turned machine ring = ring ≡ []
+RingBefore false job turned zero ring = ring ≡ []
+RingBefore false job turned (suc machine) ring = ComeAfter job machine (turned machine) ring (machine_place job turned (suc machine)).pending_inputs
 
 -- a machine with the ring before it, which has room for 256 bytes
 pub record InLine (job : LineJob) (turned : Turned) (machine : ℕ) (member : Member) : Type 0 where
   pub stands : MemberAt member (machine_place job turned machine)
-  pub ring : RingBefore job turned machine member.ring.items
+  pub ring : RingBefore (member_has_ended member) job turned machine member.ring.items
   pub room : member.ring.capacity ≡ 256
-  pub within : length member.ring.items ≤ 256
 
--- a line represents these numbers of turns: each machine stands where its turns lead
+-- a line represents these numbers of turns: each machine stands where its turns lead, and all that the script still gives is for the console
 pub record LineRepresents (job : LineJob) (line : Line) (turned : Turned) : Type 0 where
   pub job_is : IsJob job
   pub some : 2 ≤ length job.roms
   pub machines : length line.members.items ≡ length job.roms
   pub budget : line.budget ≡ job.budget
   pub script : line.input_queue ≡ (machine_place job turned 0).pending_inputs
+  pub console : AreForConsole line.input_queue
   pub each : (machine : ℕ) (member : Member) → slice_get line.members.items machine ≡ Some member → InLine job turned machine member
 
 -- the job of a line of these ROMs

@@ -1,7 +1,7 @@
 -- The machines of a line, the run of each, and the stream of bytes that it hands on (profile).
 use Rattle.std.specs.Prelude.{◌≡◌, ℕ, zero, suc, ◌≤◌, List, [], ◌∷◌, ◌++◌, map, pos, None}
 use Rattle.std.specs.FinMap as nodes_map
-use Rattle.std.specs.Prelude.{slice_index_or, Bool, true, false, IsTrue}
+use Rattle.std.specs.Prelude.{slice_index_or, Bool, false, IsTrue}
 use Rattle.std.specs.List.{list_all}
 use Rattle.uxn_opcodes.specs.Rule.{new_core}
 use Rattle.play_script.specs.declared.script.Clock.{Clock}
@@ -13,11 +13,12 @@ use Rattle.system_port.specs.DebugText.{exit_code_of}
 use Rattle.varvara_bus.specs.History.{stored}
 use Rattle.varvara_bus.specs.declared.time.Clock.{Clock as BusClock}
 use Rattle.varvara_bus.specs.State.{new_state}
+use Rattle.vector_loop.specs.declared.pending_input.PendingInput.TheVariants.{OfEvent}
 use Rattle.vector_loop.specs.State.{State, new_tally}
 use Rattle.vector_loop.specs.Trace.{Trace}
 use Rattle.vector_loop.specs.Run.{run}
 use Rattle.vector_loop.specs.Places.{Place, PlaceHasEnded, after_steps, run_begun}
-use Rattle.uxn_line.specs.Places.{no_outputs, put_by, put_in}
+use Rattle.uxn_line.specs.Places.{is_for_console, no_outputs, put_by, put_in}
 
 -- what a line is made of: a ROM for each machine, the script of the first one, and the budget of every vector
 pub record LineJob : Type 0 where
@@ -25,11 +26,9 @@ pub record LineJob : Type 0 where
   pub script : ScriptView
   pub budget : ℕ
 
--- events of the console: bytes of input and ends of input
+-- events that give the console a byte: bytes of input and ends of input
 abbrev pub is_of_console : Event → Bool
-is_of_console (Input byte) = true
-is_of_console EndInput = true
-is_of_console _ = false
+is_of_console event = is_for_console (OfEvent event)
 
 abbrev pub AreOfConsole : List Event → Type 0
 AreOfConsole events = IsTrue (list_all is_of_console events)

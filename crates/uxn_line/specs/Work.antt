@@ -2,15 +2,14 @@
 use Rattle.std.specs.Prelude.{◌≡◌, ℕ, ◌<◌, ◌+◌, ◌*◌, if◌then◌else◌, Bool, true, false, List, [], ◌∷◌, length}
 use Rattle.uxn_line.specs.declared.line.Line.{Line}
 use Rattle.uxn_line.specs.declared.member.Member.{Member}
-use Rattle.uxn_line.specs.Members.{member_has_ended}
 
 -- how much may still be given to a machine: the bytes of its ring, the work left before it, and one more until all was given
 abbrev pub still_given : ℕ → Member → ℕ
 still_given before member = length member.ring.items + before + (if member.all_given then 0 else 1)
 
--- each of these may run a vector of the whole budget; an ended machine has no work left
+-- each of these may run a vector of the whole budget
 abbrev pub work : ℕ → ℕ → Member → ℕ
-work budget before member = if member_has_ended member then 0 else still_given before member * (budget + 1) + member.machine.left
+work budget before member = still_given before member * (budget + 1) + member.machine.left
 
 -- the work left of all machines from one on, before which so much is left
 abbrev pub works : ℕ → ℕ → List Member → ℕ

@@ -4,6 +4,7 @@ ghost use Rattle.std.specs.List.{list_all};
 ghost use Rattle.uxn_line.specs.Streams.{is_of_console};
 
 use play_script::Event;
+use vector_loop::PendingInput;
 
 /// Whether all events are of the console: inputs and ends of the input.
 pub fn are_of_console(events: &[Event]) -> bool
@@ -12,9 +13,9 @@ pub fn are_of_console(events: &[Event]) -> bool
     events.iter().all(|event| is_of_console(event))
 }
 
-// Whether an event is of the console.
+// Whether an event gives the console a byte.
 fn is_of_console(event: &Event) -> bool
     ensures { result ≡ is_of_console event.now }
 {
-    matches!(event, Event::Input(_) | Event::EndInput)
+    PendingInput::OfEvent(*event).console_byte().is_some()
 }

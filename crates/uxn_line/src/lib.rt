@@ -12,6 +12,6 @@ mod output;
 pub use events::are_of_console;
 pub use law::{every_order_gives_the_streams, turns_are_the_run};
 pub use line::{Line, Moved};
-pub use machine::Machine;
+pub use machine::{Machine, clock_of};
 pub use output::next_byte;
 pub use setup_lines::{Setup, SetupKind, SetupStop, Turns, read_setup};

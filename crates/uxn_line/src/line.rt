@@ -1,13 +1,17 @@
 //! A line of machines, and its turns.
-ghost use Rattle.std.specs.Prelude.{◌≡◌, ◌↔◌, ◌-◌, ◌+◌, ◌<◌, ◌≤◌, ◌∷◌, [], ℕ, suc, true, false, Ok, IfOk, OnOk, OnErr, IsOk, is_err, length, slice_get, Some};
+ghost use Rattle.std.specs.Prelude.{◌≡◌, ◌↔◌, ◌-◌, ◌+◌, ◌<◌, ◌≤◌, ◌∷◌, [], ℕ, suc, true, false};
+ghost use Rattle.std.specs.Prelude.{option_to_list, Ok, IfOk, OnOk, OnErr, IsOk, is_err, length, slice_get, Some};
 ghost use Rattle.std.specs.List.{All};
 ghost use Rattle.uxn_io_traits.specs.State.{SinkState};
 ghost use Rattle.uxn_memory.specs.Bytes.{largest_rom};
 ghost use Rattle.vector_loop.specs.Places.{PlaceHasEnded};
 ghost use Rattle.vector_loop.specs.PendingInputs.{pending_inputs_of};
-ghost use Rattle.uxn_line.specs.Streams.{LineJob, AreOfConsole, rom_at};
-ghost use Rattle.uxn_line.specs.Members.{IsOpen, IsRunning};
-ghost use Rattle.uxn_line.specs.Standing.{Turned, none_turned, machine_place, InLine, LineRepresents, line_job};
+ghost use Rattle.play_script.specs.Held.{bytes_in};
+ghost use Rattle.play_script.specs.Limits.{IsTime};
+ghost use Rattle.uxn_line.specs.Streams.{LineJob, AreOfConsole, script_at};
+ghost use Rattle.uxn_line.specs.Members.{BeginsWith, IsOpen};
+ghost use Rattle.uxn_line.specs.Standing.{Turned, none_turned, machine_place, LineRepresents, line_job};
+ghost use Rattle.uxn_line.specs.Handing.{HandsOn};
 ghost use Rattle.uxn_line.specs.Moves.{Came, Fails, Goes, MachineIsHeld, IsUnderWay, IsWaiting, StaysUnderWay, TurnCame, is_move, turned_by};
 
 use crate::member::Member;
@@ -18,7 +22,7 @@ use std::alloc::{AllocError, Global};
 use uxn_io_traits::{Bytes, Failed, NoSink, Sink};
 use vector_loop::InputQueue;
 
-/// What a turn came to.
+/// What a turn did, or why it did nothing.
 #[derive(Clone, Copy, PartialEq, Eq)]
 pub enum Moved {
     /// The machine ran one instruction.
@@ -70,14 +74,8 @@ impl<'a> Line<'a> {
         let input_queue = InputQueue::new(script);
         let mut members = Vec::with_capacity(alloc, roms.len())?;
         for (index, rom) in roms.iter().enumerate() {
-            members.push(new_member(
-                alloc,
-                index,
-                rom.as_slice(),
-                script,
-                input_queue.is_empty(),
-                budget,
-            )?)?;
+            let (arguments, clock, all_given) = start_of(index, script, input_queue.is_empty());
+            members.push(Member::new(alloc, rom.as_slice(), arguments, clock, budget, all_given)?)?;
         }
         Ok(Line {
             members,
@@ -95,17 +93,16 @@ impl<'a> Line<'a> {
 
     /// Gives a machine, from 1, one turn: an instruction of its vector, or where it is idle what comes next to its console.
     /// Errors where `out` does not take the byte that the last machine writes; then the line and `out` are as before.
-    #[tactic(auto, using(crate::proofs::Ending::waiting_idle, crate::proofs::Ending::waiting_goes))]
     pub fn turn<O: Sink>(&mut self, machine: u8, out: &mut O) -> Result<Moved, Failed>
         requires first { 1 ≤ machine }
         requires there { machine ≤ length self.old.members.items }
 
-        // For all numbers of turns for which the line stood it represents the same ones, but one more of the machine where it moved,
-        // and what the last machine has written more was put.
+        // A line that represented numbers of turns represents the same ones, but one more of the machine where it moved. What the
+        // last machine has written more was put.
         ensures goes { IfOk result (λ moved. Goes (turned_by moved (machine - 1)) self.old self.new
             (O.state out.old) (O.state out.new)) }
 
-        // Each answer comes exactly where its cause holds; the first two also depend on what `out` takes.
+        // The last three answers come exactly where their causes hold. `Ran` comes only in a vector, and `Gave` only outside one.
         ensures ran { (job : LineJob) (turned : Turned) → LineRepresents job self.old turned → result ≡ Ok Moved.Ran
             → 1 ≤ (machine_place job turned (machine - 1)).left }
         ensures gave { (job : LineJob) (turned : Turned) → LineRepresents job self.old turned → result ≡ Ok Moved.Gave
@@ -143,46 +140,46 @@ impl<'a> Line<'a> {
         if member.machine.left == 0 {
             return Ok(self.give_at(index));
         }
-        match next_byte(&member.machine.core) {
-            None => Ok(self.run_of_machine(index)),
-            Some(byte) => self.write_at(index, byte, out),
+        let byte = next_byte(&member.machine.core);
+        if !self.hand_on(index, byte, out)? {
+            return Ok(Moved::Held);
+        }
+        self.members[index].run();
+        Ok(Moved::Ran)
+    }
+
+    // Hands on the byte that a machine is about to write to port 18, if it is: puts it where the machine is the last one, else gives
+    // it to the next one. Answers false where the next one has no room for it; then nothing is changed.
+    fn hand_on<O: Sink>(
+        &mut self,
+        index: usize,
+        byte: Option<u8>,
+        out: &mut O,
+    ) -> Result<bool, Failed>
+        requires { index < length self.old.members.items }
+        ensures { HandsOn index (option_to_list byte) self.old self.new (O.state out.old) (O.state out.new) result }
+    {
+        match byte {
+            Some(byte) => self.hand_on_byte(index, byte, out),
+            None => Ok(true),
         }
     }
 
-    // Runs an instruction that writes nothing to port 18.
-    fn run_of_machine(&mut self, index: usize) -> Moved
-        requires { IsRunning [] self.old index }
-        ensures { Came index result [] self.old self.new }
-    {
-        self.members[index].run();
-        Moved::Ran
-    }
-
-    // Runs an instruction that writes a byte to port 18. The byte is handed on first, so where it is not taken nothing is changed.
-    fn write_at<O: Sink>(&mut self, index: usize, byte: u8, out: &mut O) -> Result<Moved, Failed>
-        requires { IsRunning (byte ∷ []) self.old index }
-        ensures { TurnCame index self.old self.new (O.state out.old) (O.state out.new) result }
+    // The same of a byte. Not inlined, so that an instruction that hands on nothing does not pay for it.
+    #[inline(never)]
+    fn hand_on_byte<O: Sink>(&mut self, index: usize, byte: u8, out: &mut O) -> Result<bool, Failed>
+        requires { index < length self.old.members.items }
+        ensures { HandsOn index (byte ∷ []) self.old self.new (O.state out.old) (O.state out.new) result }
     {
         if index + 1 == self.members.len() {
             console_write(out, &mut NoSink, Output::Standard, byte)?;
-            self.members[index].run();
-            return Ok(Moved::Ran);
+            return Ok(true);
         }
-        Ok(self.hand_on(index, byte))
-    }
-
-    // Runs an instruction whose byte the next machine gets.
-    fn hand_on(&mut self, index: usize, byte: u8) -> Moved
-        requires running { IsRunning (byte ∷ []) self.old index }
-        requires there { index + 1 < length self.old.members.items }
-        ensures { Came index result [] self.old self.new }
-    {
         if self.members[index + 1].is_full() {
-            return Moved::Held;
+            return Ok(false);
         }
         self.members[index + 1].take(byte);
-        self.members[index].run();
-        Moved::Ran
+        Ok(true)
     }
 
     // Gives an idle machine whose run is not over what comes next.
@@ -191,10 +188,22 @@ impl<'a> Line<'a> {
         ensures { Came index result [] self.old self.new }
     {
         if index == 0 {
-            self.give_first()
-        } else {
-            self.give_behind(index)
+            return self.give_first();
         }
+        self.give_behind(index - 1)
+    }
+
+    // Gives the machine behind one what comes next from that.
+    fn give_behind(&mut self, before: usize) -> Moved
+        requires { IsOpen self.old (suc before) }
+        ensures { Came (suc before) result [] self.old self.new }
+    {
+        let none_comes = self.members[before].is_over();
+        if self.members[before + 1].must_wait(none_comes) {
+            return Moved::Waits;
+        }
+        self.members[before + 1].give_next(self.budget);
+        Moved::Gave
     }
 
     // Gives the first machine what comes next of the script.
@@ -203,50 +212,28 @@ impl<'a> Line<'a> {
         ensures { Came 0 result [] self.old self.new }
     {
         let Some(pending_input) = self.input_queue.take() else {
-            return Moved::Ended;
+            return Moved::Waits;
         };
         let last = self.input_queue.is_empty();
         self.members[0].give(pending_input, last, self.budget);
         Moved::Gave
     }
-
-    // Gives a machine what comes next from the one before it.
-    fn give_behind(&mut self, index: usize) -> Moved
-        requires behind { 1 ≤ index }
-        requires open { IsOpen self.old index }
-        ensures { Came index result [] self.old self.new }
-    {
-        let none_comes = self.members[index - 1].is_over();
-        if self.members[index].must_wait(none_comes) {
-            return Moved::Waits;
-        }
-        self.members[index].give_next(self.budget);
-        Moved::Gave
-    }
 }
 
-// The new machine at a place of a line, from 0. Nothing is given to the first one where its script gives nothing.
-fn new_member(
-    alloc: Global,
-    index: usize,
-    rom: &[u8],
-    script: &Script,
-    nothing: bool,
-    budget: u32,
-) -> Result<Member, AllocError>
-    requires small { length rom.now ≤ largest_rom }
-    requires some { 1 ≤ budget }
-    requires nothing { (nothing ≡ true) ↔ (pending_inputs_of script.now ≡ []) }
-    ensures { IfOk result (λ member. (job : LineJob) → job.script ≡ script.now → job.budget ≡ budget → rom_at job index ≡ rom.now
-        → InLine job none_turned index member) }
+// What the machine at a place of a line begins with, from 0: its arguments, its clock, and whether nothing is given to it. The first one
+// has those of the script.
+fn start_of(index: usize, script: &Script, nothing: bool) -> (&[Bytes], Clock, bool)
+    requires { (nothing ≡ true) ↔ (pending_inputs_of script.now ≡ []) }
+    ensures time { IsTime result.1 }
+    ensures starts { (job : LineJob) → job.script ≡ script.now → BeginsWith (script_at job index) (bytes_in result.0.now) result.1 result.2 }
 {
     if index == 0 {
         script.known();
-        return Member::new(alloc, rom, script.args(), script.clock(), budget, nothing);
+        return (script.args(), script.clock(), nothing);
     }
     let clock = Clock {
         seconds: 0,
         offset: 0,
     };
-    Member::new(alloc, rom, &[], clock, budget, false)
+    (&[], clock, false)
 }

@@ -1,5 +1,5 @@
 //! One machine of a line: its core and its devices, with nothing outside. It can stop between any two instructions.
-ghost use Rattle.std.specs.Prelude.{◌++◌, ◌≤◌, IfOk, None, length, ◌≡◌, ℕ, ◌<◌, ◌∷◌, [], List, false, ◌↔◌};
+ghost use Rattle.std.specs.Prelude.{◌++◌, ◌≤◌, ◌-◌, ◌==◌, if◌then◌else◌, IfOk, None, length, ◌≡◌, ℕ, ◌<◌, ◌∷◌, [], List, false};
 ghost use Rattle.uxn_memory.specs.Bytes.{largest_rom};
 ghost use Rattle.uxn_opcodes.specs.Rule.{opcode_at};
 ghost use Rattle.console_port.specs.Console.{event_byte};
@@ -7,31 +7,26 @@ ghost use Rattle.play_script.specs.Held.{bytes_in};
 ghost use Rattle.play_script.specs.Limits.{IsTime};
 ghost use Rattle.play_script.specs.Scripts.{ScriptView};
 ghost use Rattle.vector_loop.specs.Run.{made_ready};
-ghost use Rattle.uxn_line.specs.Streams.{clock_by, exit_code_at, first_place};
+ghost use Rattle.uxn_line.specs.Streams.{clock_by, first_place};
 ghost use Rattle.varvara_bus.specs.History.{stored, stored_short};
 ghost use Rattle.varvara_bus.specs.State.{DeviceState, storing};
 ghost use Rattle.varvara_bus.specs.Model.{instruction_effect};
-ghost use Rattle.vector_loop.specs.State.{is_over};
+ghost use Rattle.vector_loop.specs.State.{State, is_over};
+ghost use Rattle.vector_loop.specs.Trace.{Trace};
 ghost use Rattle.vector_loop.specs.declared.pending_input.PendingInput.{PendingInput};
 ghost use Rattle.vector_loop.specs.PendingInputs.{console_byte_of};
-ghost use Rattle.vector_loop.specs.Places.{Place};
+ghost use Rattle.vector_loop.specs.Places.{Place, vector_begins};
 ghost use Rattle.uxn_line.specs.Places.{turn, put_in, IsForConsole};
 ghost use Rattle.uxn_line.specs.Machines.{Rests, MachineHasDone, MachineRepresents, handed_on};
 
-use console_port::{EventKind, KIND};
+use console_port::EventKind;
 use play_script::Clock as ScriptClock;
 use std::alloc::{AllocError, Global};
-use system_port::exit_code;
 use uxn_io_traits::{Bytes, NoSink, NoTree};
-use uxn_opcodes::{Core, Turn, step};
+use uxn_limits::ports::{CONSOLE_TYPE, CONSOLE_VECTOR, SYSTEM_STATE};
+use uxn_opcodes::{Core, step};
 use varvara_bus::{Bus, Clock, Devices};
 use vector_loop::PendingInput;
-
-/// The port of the state, which ends a run where it is not 0.
-const STATE: u8 = 0x0f;
-
-/// The port of the console's vector.
-const VECTOR: u8 = 0x10;
 
 /// A machine in the middle of its run.
 #[derive(Drop)]
@@ -45,17 +40,26 @@ pub struct Machine {
 }
 
 /// Runs one instruction. Nothing outside is there and there is no root, so it never stops.
-fn run_instruction(core: &mut Core, devices: &mut Devices) -> Turn
-    ensures done { (state : DeviceState) → Rests devices.old state → MachineHasDone core.new devices.new (instruction_effect state core.old) }
-    ensures broke { (state : DeviceState) → Rests devices.old state → (result ≡ Turn.Broke) ↔ (opcode_at core.old ≡ 0) }
+fn run_instruction(core: &mut Core, devices: &mut Devices)
+    ensures { (state : DeviceState) → Rests devices.old state → MachineHasDone core.new devices.new (instruction_effect state core.old) }
 {
     let mut tree = NoTree;
     let mut out = NoSink;
     let mut err = NoSink;
     let mut bus = Bus::new(devices, &mut tree, &mut out, &mut err);
-    match step(core, &mut bus) {
-        Ok(turn) => turn,
-        Err(_) => Turn::Broke,
+    let _done = step(core, &mut bus);
+}
+
+/// What is left of a budget behind the coming instruction: nothing behind BRK.
+fn left_behind(core: &Core, left: u32) -> u32
+    requires { 0 < left }
+    ensures left { result ≡ (if opcode_at core.now == 0 then 0 else left - 1) }
+    ensures less { result < left }
+{
+    if core.memory.get(core.at) == 0 {
+        0
+    } else {
+        left - 1
     }
 }
 
@@ -71,23 +75,11 @@ fn hold(devices: &mut Devices, byte: u8, kind: EventKind) -> u16
     let mut err = NoSink;
     let mut bus = Bus::new(devices, &mut tree, &mut out, &mut err);
     bus.give(byte, kind);
-    bus.stored_short(VECTOR)
-}
-
-/// The byte in the port of the state.
-fn state_of(devices: &mut Devices) -> u8
-    ensures devices { devices.new ≡ devices.old }
-    ensures state { (state : DeviceState) → Rests devices.old state → result ≡ stored state.history 0x0f }
-{
-    let mut tree = NoTree;
-    let mut out = NoSink;
-    let mut err = NoSink;
-    let bus = Bus::new(devices, &mut tree, &mut out, &mut err);
-    bus.stored(STATE)
+    bus.stored_short(CONSOLE_VECTOR)
 }
 
 /// The clock of a machine, by that of its script.
-fn clock_of(clock: ScriptClock) -> Clock
+pub fn clock_of(clock: ScriptClock) -> Clock
     ensures { result ≡ clock_by clock }
 {
     Clock {
@@ -108,7 +100,7 @@ fn make_ready(devices: &mut Devices, arguments: &[Bytes])
     let mut out = NoSink;
     let mut err = NoSink;
     let mut bus = Bus::new(devices, &mut tree, &mut out, &mut err);
-    bus.store(KIND, EventKind::Input.byte());
+    bus.store(CONSOLE_TYPE, EventKind::Input.byte());
 }
 
 impl Machine {
@@ -143,17 +135,17 @@ impl Machine {
         ensures put { (budget : ℕ) (now : Place) → MachineRepresents self.old now
             → put_in (turn budget now) ≡ put_in now ++ handed_on self.old.core }
     {
-        self.left = match run_instruction(&mut self.core, &mut self.devices) {
-            Turn::Ran => self.left - 1,
-            Turn::Broke => 0,
-        };
+        let left = left_behind(&self.core, self.left);
+        run_instruction(&mut self.core, &mut self.devices);
+        self.left = left;
     }
 
     /// Gives an idle machine whose run is not over what comes next. What is not for the console does nothing.
     pub fn give(&mut self, pending_input: PendingInput, budget: u32)
         requires { self.old.left ≡ 0 }
         ensures left { self.new.left ≤ budget }
-        ensures stands { (now : Place) (pending_inputs : List PendingInput) → MachineRepresents self.old now → now.pending_inputs ≡ pending_input ∷ pending_inputs
+        ensures stands { (now : Place) (pending_inputs : List PendingInput) → MachineRepresents self.old now
+            → now.pending_inputs ≡ pending_input ∷ pending_inputs
             → IsForConsole pending_input → is_over now.done.last ≡ false → MachineRepresents self.new (turn budget now) }
         ensures others { console_byte_of pending_input ≡ None → self.new ≡ self.old }
     {
@@ -161,25 +153,32 @@ impl Machine {
             return;
         };
         let address = hold(&mut self.devices, byte, kind);
+        self.begin(address, budget);
+    }
+
+    // Begins a vector at an address, unless that is 0.
+    fn begin(&mut self, address: u16, budget: u32)
+        requires { self.old.left ≡ 0 }
+        ensures most { self.new.left ≤ budget }
+        ensures begins { (held : State) (done : Trace) (later : List PendingInput) → self.old.core ≡ held.core
+            → Rests self.old.devices held.devices → address ≡ stored_short held.devices.history 0x10
+            → MachineRepresents self.new (vector_begins budget held done later) }
+    {
         if address != 0 {
             self.core.at = address;
             self.left = budget;
         }
     }
 
-    /// Whether the state is not 0, which ends the run of an idle machine.
-    pub(crate) fn is_over(&mut self) -> bool
-        ensures over { (now : Place) → MachineRepresents self.old now → result ≡ is_over now.done.last }
+    /// The byte in the port of the state, which ends the run of an idle machine where it is not 0.
+    pub(crate) fn state(&mut self) -> u8
+        ensures state { (now : Place) → MachineRepresents self.old now → result ≡ stored now.done.last.devices.history 0x0f }
         ensures same { self.new ≡ self.old }
     {
-        state_of(&mut self.devices) != 0
-    }
-
-    /// The exit code of a run that ended in this state.
-    pub(crate) fn exit_code(&mut self) -> u8
-        ensures code { (now : Place) → MachineRepresents self.old now → result ≡ exit_code_at now.done.last }
-        ensures same { self.new ≡ self.old }
-    {
-        exit_code(state_of(&mut self.devices))
+        let mut tree = NoTree;
+        let mut out = NoSink;
+        let mut err = NoSink;
+        let bus = Bus::new(&mut self.devices, &mut tree, &mut out, &mut err);
+        bus.stored(SYSTEM_STATE)
     }
 }

@@ -1,16 +1,15 @@
 //! A machine in a line, with the bytes that were handed to it.
-ghost use Rattle.std.specs.Prelude.{◌≡◌, ◌↔◌, ◌++◌, ◌∷◌, [], ℕ, ◌<◌, ◌≤◌, true, false, IfOk, length};
+ghost use Rattle.std.specs.Prelude.{◌≡◌, ◌↔◌, ◌++◌, ◌∷◌, [], ℕ, ◌<◌, ◌≤◌, true, false, IfOk, drop, is_none, length, slice_get};
 ghost use Rattle.circular_buffer.specs.Buffer.{buffer};
 ghost use Rattle.uxn_memory.specs.Bytes.{largest_rom};
 ghost use Rattle.play_script.specs.Held.{bytes_in};
 ghost use Rattle.play_script.specs.Limits.{IsTime};
 ghost use Rattle.play_script.specs.Scripts.{ScriptView};
 ghost use Rattle.vector_loop.specs.Places.{Place, PlaceHasEnded};
-ghost use Rattle.vector_loop.specs.PendingInputs.{pending_inputs_of};
 ghost use Rattle.uxn_line.specs.Streams.{first_place};
 ghost use Rattle.uxn_line.specs.Machines.{MachineRepresents};
-ghost use Rattle.uxn_line.specs.Members.{MemberAt, member_has_ended};
-ghost use Rattle.uxn_line.specs.MemberTurns.{KeepsRing, HasRun, MemberWasGiven, WasGivenNext};
+ghost use Rattle.uxn_line.specs.Members.{BeginsWith, MemberAt, member_has_ended, next_pending, handed};
+ghost use Rattle.uxn_line.specs.MemberTurns.{KeepsRing, HasRun, MemberWasGiven};
 ghost use Rattle.uxn_line.specs.Work.{work};
 
 use crate::machine::Machine;
@@ -32,8 +31,8 @@ pub struct Member {
     pub ring: HeapCircularBuffer<u8>,
     /// Whether it was given all that it is ever given.
     pub all_given: bool,
-    /// Whether its state was not 0 when it last was idle.
-    pub stopped: bool,
+    /// The byte in the port of its state when it last was idle.
+    pub state: u8,
 }
 
 impl Member {
@@ -49,15 +48,15 @@ impl Member {
         requires small { length rom.now ≤ largest_rom }
         requires time { IsTime clock }
         requires some { 1 ≤ budget }
-        ensures stands { IfOk result (λ member. (script : ScriptView) → script.arguments ≡ bytes_in arguments.now → script.clock ≡ clock
-            → (all_given ≡ true) ↔ (pending_inputs_of script ≡ []) → MemberAt member (first_place budget rom.now script)) }
+        ensures stands { IfOk result (λ member. (script : ScriptView) → BeginsWith script (bytes_in arguments.now) clock all_given
+            → MemberAt member (first_place budget rom.now script)) }
         ensures ring { IfOk result (λ member. member.ring ≡ buffer [] 256) }
     {
         Ok(Member {
             machine: Machine::new(alloc, rom, arguments, clock, budget)?,
             ring: HeapCircularBuffer::with_capacity(alloc, ROOM)?,
             all_given,
-            stopped: false,
+            state: 0,
         })
     }
 
@@ -66,7 +65,7 @@ impl Member {
         ensures value { result ≡ member_has_ended self.now }
         ensures ended { (now : Place) → MemberAt self.now now → (result ≡ true) ↔ PlaceHasEnded now }
     {
-        self.machine.left == 0 && (self.stopped || self.all_given)
+        self.machine.left == 0 && (self.state != 0 || self.all_given)
     }
 
     // Sees whether the run is over. Then nothing is kept for it.
@@ -80,7 +79,7 @@ impl Member {
         if self.machine.left > 0 {
             return;
         }
-        self.stopped = self.machine.is_over();
+        self.state = self.machine.state();
         if self.is_over() {
             self.ring.clear();
         }
@@ -99,7 +98,7 @@ impl Member {
     /// Gives an idle machine whose run is not over what comes next, and says whether that is the last.
     pub fn give(&mut self, pending_input: PendingInput, last: bool, budget: u32)
         requires { self.old.machine.left ≡ 0 }
-        ensures { MemberWasGiven budget pending_input last self.old self.new }
+        ensures { MemberWasGiven budget pending_input last self.old.ring.items self.old self.new }
     {
         self.machine.give(pending_input, budget);
         self.all_given = last;
@@ -108,28 +107,26 @@ impl Member {
 
     /// Whether its ring is empty and a byte may still be handed to it.
     pub fn must_wait(&self, none_comes: bool) -> bool
-        ensures { (result ≡ true) ↔ ((self.now.ring.items ≡ []) × (none_comes ≡ false)) }
+        ensures waits { result ≡ true → (self.now.ring.items ≡ []) × (none_comes ≡ false) }
+        ensures goes { result ≡ false → self.now.ring.items ≡ [] → none_comes ≡ true }
     {
         self.ring.is_empty() && !none_comes
     }
 
     /// Gives an idle machine whose run is not over the next byte of its ring, or the end of its input where the ring is empty.
     pub fn give_next(&mut self, budget: u32)
-        requires idle { self.old.machine.left ≡ 0 }
-        requires goes_on { member_has_ended self.old ≡ false }
-        ensures given { WasGivenNext budget self.old self.new }
-        ensures work { (before : ℕ) → work budget before self.new < work budget before self.old }
+        requires { self.old.machine.left ≡ 0 }
+        ensures { MemberWasGiven budget (next_pending (slice_get self.old.ring.items 0)) (is_none (slice_get self.old.ring.items 0))
+            (drop 1 self.old.ring.items) self.old self.new }
     {
-        match self.ring.pop_front() {
-            Some(byte) => self.give(PendingInput::OfEvent(Event::Input(byte)), false, budget),
-            None => self.give(PendingInput::OfEvent(Event::EndInput), true, budget),
-        }
+        let byte = self.ring.pop_front();
+        self.give(next_pending(byte), byte.is_none(), budget);
     }
 
     /// Whether its run is not over and its ring is full.
     pub fn is_full(&self) -> bool
-        ensures over { member_has_ended self.now ≡ true → result ≡ false }
-        ensures full { member_has_ended self.now ≡ false → (result ≡ true) ↔ (self.now.ring.capacity ≤ length self.now.ring.items) }
+        ensures full { result ≡ true → (member_has_ended self.now ≡ false) × (length self.now.ring.items ≡ self.now.ring.capacity) }
+        ensures room { member_has_ended self.now ≡ false → result ≡ false → length self.now.ring.items < self.now.ring.capacity }
     {
         !self.is_over() && self.ring.len() >= self.ring.capacity()
     }
@@ -137,12 +134,20 @@ impl Member {
     /// Keeps a byte that is handed to it, unless its run is over.
     pub fn take(&mut self, byte: u8)
         requires { member_has_ended self.old ≡ false → length self.old.ring.items < self.old.ring.capacity }
-        ensures over { member_has_ended self.old ≡ true → self.new ≡ self.old }
-        ensures kept { member_has_ended self.old ≡ false
-            → self.new ≡ record self.old { ring = buffer (self.old.ring.items ++ byte ∷ []) self.old.ring.capacity } }
+        ensures { self.new ≡ handed (byte ∷ []) self.old }
     {
         if !self.is_over() {
             self.ring.push_back(byte);
         }
+    }
+}
+
+/// What comes next to a machine before which this is the first byte: it, or the end where there is none.
+fn next_pending(byte: Option<u8>) -> PendingInput
+    ensures { result ≡ next_pending byte }
+{
+    match byte {
+        Some(byte) => PendingInput::OfEvent(Event::Input(byte)),
+        None => PendingInput::OfEvent(Event::EndInput),
     }
 }

@@ -7,14 +7,12 @@ ghost use Rattle.uxn_opcodes.specs.Rule.{begun_by, past_opcode};
 ghost use Rattle.uxn_opcodes.specs.Model.{writes_in};
 ghost use Rattle.uxn_line.specs.Machines.{handed_in, handed_on};
 
+use uxn_limits::ports::CONSOLE_WRITE;
 use uxn_opcodes::{Core, Mode, Op, Width};
 use uxn_stacks::Ring;
 
-/// The port of the standard output.
-const OUT: u8 = 0x18;
-
-/// The port before it: a short that is written there ends in the port of the standard output.
-const BEFORE_OUT: u8 = 0x17;
+/// The port before that of the standard output: a short that is written there ends in the latter.
+const BEFORE_OUT: u8 = CONSOLE_WRITE - 1;
 
 /// The byte that the coming instruction writes to port 18, if it does.
 #[tactic(auto, unfolding(crate::specs::Machines::handed_on, uxn_opcodes::specs::Rule::begun))]
@@ -63,7 +61,11 @@ fn written(ring: &Ring, width: Width) -> Option<u8>
 fn of_byte(port: u8, value: u8) -> Option<u8>
     ensures { option_to_list result ≡ handed_in (writes_of Byte port value) }
 {
-    if port == OUT { Some(value) } else { None }
+    if port == CONSOLE_WRITE {
+        Some(value)
+    } else {
+        None
+    }
 }
 
 /// What a short written to a port and the next one puts into port 18.
@@ -72,7 +74,7 @@ fn of_short(port: u8, value: u16) -> Option<u8>
 {
     match port {
         BEFORE_OUT => Some((value % 256) as u8),
-        OUT => Some((value / 256) as u8),
+        CONSOLE_WRITE => Some((value / 256) as u8),
         _ => None,
     }
 }

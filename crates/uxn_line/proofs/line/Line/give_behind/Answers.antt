@@ -1,28 +1,27 @@
-use Rattle.uxn_line.proofs.Feeding.{behind-waits, behind-gives}
+use Rattle.uxn_line.proofs.Common.{◌≡◌, length, refl, sym, ◌∙◌, arith, add-one, slice_get_read, slice_get_within}
+use Rattle.uxn_line.proofs.Feeding.{found-open, behind-waits, behind-gives}
 use Rattle.uxn_line.proofs.line.Line.give_behind.Goals as goal
 
 pub returns-then-must_wait : goal.returns-then-must_wait
 returns-then-must_wait c =
-    behind-waits c.args.self.now c.args.index c.index.result.now c.index-2.result.now c.is_over-none_comes.result c.must_wait.result
-    (record {
-      behind = c.requires.behind;
-      is_open = c.requires.«open»;
-      last_is = c.index.ensures;
-      observed_is = c.index-2.ensures;
-      none_is = c.is_over-none_comes.ensures.value;
-      waits_is = c.must_wait.ensures;
-    }) c.if-must_wait.true
+    let line = c.args.self.now in
+    let items = line.members.items in
+    let found = found-open line _ c.index-2.result.now c.requires (rw (add-one c.args.before) at c.index-2.ensures) in
+    let within = slice_get_within items _ c.index-2.result.now found.there in
+    let is = c.must_wait.ensures.waits c.if-must_wait.true in
+    behind-waits line c.args.before c.index.result.now c.index-2.result.now found
+    (slice_get_read items (length items) c.args.before c.index.result.now refl (omega arith) c.index.ensures) is.0
+    (sym c.is_over-none_comes.ensures.value ∙ is.1)
 
 pub returns : goal.returns
 returns c =
-    behind-gives c.args.self.now c.args.index c.index.result.now c.index-2.result.now c.index_mut.result.now c.give_next.new.self
-    c.is_over-none_comes.result c.must_wait.result
-    (record {
-      behind = c.requires.behind;
-      is_open = c.requires.«open»;
-      last_is = c.index.ensures;
-      observed_is = c.index-2.ensures;
-      none_is = c.is_over-none_comes.ensures.value;
-      waits_is = c.must_wait.ensures;
-    }) c.if-must_wait.false c.index_mut.ensures.value
-    c.give_next.ensures.given c.give_next.ensures.work
+    let line = c.args.self.now in
+    let items = line.members.items in
+    let member = c.index_mut.result.now in
+    let observed = found-open line _ c.index-2.result.now c.requires (rw (add-one c.args.before) at c.index-2.ensures) in
+    let found = found-open line _ member c.requires (rw (add-one c.args.before) at c.index_mut.ensures.value) in
+    let within = slice_get_within items _ member found.there in
+    let same : c.index-2.result.now ≡ member = cc in
+    rw (add-one c.args.before) (behind-gives line c.args.before c.index.result.now member c.give_next.new.self found
+    (slice_get_read items (length items) c.args.before c.index.result.now refl (omega arith) c.index.ensures)
+    (λ none. sym c.is_over-none_comes.ensures.value ∙ (rw same at c.must_wait.ensures.goes) c.if-must_wait.false none) c.give_next.ensures)

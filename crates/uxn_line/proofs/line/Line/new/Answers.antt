@@ -1,22 +1,24 @@
-use Rattle.uxn_line.proofs.Common.{◌+◌, [], ◌∷◌, length, refl, sym, ap, ◌∙◌, arith, length-append, slice_get, ByteList, sink-as-it-was, Line}
-use Rattle.uxn_line.proofs.Common.{none_turned, LineRepresents, line_job}
-use Rattle.std.proofs.lemmas.List.{length-map}
-use Rattle.uxn_line.proofs.NewLines.{rom-there, member-more}
+use Rattle.uxn_line.proofs.Common.{length-map, ◌+◌, [], ◌∷◌, length, refl, sym, ap, ◌∙◌, arith, length-append, slice_get, ByteList, sink-as-it-was}
+use Rattle.uxn_line.proofs.Common.{Line, none_turned, script_at, LineRepresents, line_job}
+use Rattle.vector_loop.specs.PendingInputs.{arguments_given}
+use Rattle.uxn_line.proofs.Coming.{script-is-for}
+use Rattle.uxn_line.proofs.NewLines.{new-in-line, rom-there, member-more}
 use Rattle.uxn_line.proofs.line.Line.new.Goals as goal
 
 pub loop-index-preserved : goal.loop-index-preserved
 loop-index-preserved c =
     let items = c.loop-index.members.items in
-    let member = c.in_ok-new_member.field-0 in
+    let index = c.loop-index.index in
+    let job = line_job c.args.roms.now c.args.script.now c.args.budget in
     let more = c.in_ok-push.ensures.items in
-    let rom = c.index-roms-index.result in
-    let at = c.in_ok-new_member.ensures (line_job c.args.roms.now c.args.script.now c.args.budget) refl refl
-    (rom-there c.args.roms.now c.loop-index.index rom c.loop-index-test.true c.index-roms-index.is ∙ sym c.as_slice.ensures) in
+    let rom = rom-there c.args.roms.now index c.index-roms-index.result c.loop-index-test.true c.index-roms-index.is ∙ sym c.as_slice.ensures in
+    let new = c.in_ok-new.ensures in
+    let at = new.stands (script_at job index) (c.start_of-all_given.ensures.starts job refl) in
     record {
       count = ap length more ∙ length-append items (_ ∷ []) ∙ ap (λ n. n + 1) c.loop-index.invariant.count;
       each = λ machine other there.
-          member-more (line_job c.args.roms.now c.args.script.now c.args.budget) items member c.loop-index.index c.loop-index.invariant.count
-          c.loop-index.invariant.each at machine other (ap (λ all. slice_get all machine) (sym more) ∙ there);
+          member-more job items c.in_ok-new.field-0 index c.loop-index.invariant.count c.loop-index.invariant.each
+          (new-in-line job index c.in_ok-new.field-0 (rw rom at) new.ring) machine other (ap (λ all. slice_get all machine) (sym more) ∙ there);
     }
 
 pub returns : goal.returns
@@ -30,6 +32,7 @@ returns c =
       machines = omega (arith, roms, c.loop-index.invariant.count, c.loop-index-test.false, c.loop-index.auto.index-end);
       budget = refl;
       script = c.new-input_queue.ensures;
+      console = rw c.new-input_queue.ensures (script-is-for (arguments_given c.args.script.now.arguments) c.args.script.now.events c.requires.events);
       each = c.loop-index.invariant.each;
     } in
     record {

@@ -1,5 +1,5 @@
 use Rattle.uxn_line.proofs.Common.{sym, ◌∙◌, arith, turn}
-use Rattle.uxn_line.proofs.Turned.{turn-given}
+use Rattle.uxn_line.proofs.MachineTurns.{turn-given}
 use Rattle.uxn_line.proofs.member.Member.give.Goals as goal
 
 pub returns : goal.returns
@@ -8,7 +8,7 @@ returns c = record {
       let is = (turn-given c.args.budget now c.args.pending_input pending_inputs (sym member.stands.left ∙ c.requires) are goes_on for_console).0 in
       c.settle.ensures.stands (turn c.args.budget now) (c.give.ensures.stands now pending_inputs member.stands are for_console goes_on)
       (λ all. is ∙ last.0 all, λ none. last.1 (sym is ∙ none));
-  ring = record { kept = c.settle.ensures.ring.kept; dropped = c.settle.ensures.ring.dropped };
-  left = omega (arith, c.settle.ensures.left, c.give.ensures.left);
+  ring = c.settle.ensures.ring;
+  most = omega (arith, c.settle.ensures.left, c.give.ensures.left);
   given = c.settle.ensures.given;
 }

@@ -1,5 +1,5 @@
 use Rattle.uxn_line.proofs.Common.{sym, ◌∙◌, turn}
-use Rattle.uxn_line.proofs.Turned.{run-pending_inputs}
+use Rattle.uxn_line.proofs.MachineTurns.{run-pending_inputs}
 use Rattle.uxn_line.proofs.member.Member.run.Goals as goal
 
 pub returns-clause-ran : goal.returns-clause-ran
@@ -9,5 +9,5 @@ returns-clause-ran c = record {
       c.settle.ensures.stands (turn budget now) (c.run.ensures.stands budget now member.stands)
       (λ all. is ∙ member.given.0 all, λ none. member.given.1 (sym is ∙ none));
   put = λ budget now member. c.run.ensures.put budget now member.stands;
-  ring = record { kept = c.settle.ensures.ring.kept; dropped = c.settle.ensures.ring.dropped };
+  ring = c.settle.ensures.ring;
 }
