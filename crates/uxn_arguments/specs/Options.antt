@@ -1,6 +1,7 @@
 -- The options of each command, in the order of its usage line; what each sets in the task that is requested; and which of the files that
 -- a task names it reads, and which it writes (profile).
-use Rattle.std.specs.Prelude.{◌≤◌, ℕ, List, [], ◌∷◌, ◌++◌, codes, Option, Some, None, is_some, option_map, option_to_list, ok_or, Result, Ok, ⊤}
+use Rattle.std.specs.Prelude.{◌≤◌, ℕ, List, [], ◌∷◌, ◌++◌, codes, Option, Some, None}
+use Rattle.std.specs.Prelude.{is_some, option_map, option_to_list, ok_or, Result, Ok, ⊤}
 use Rattle.option_table.specs.Words.{Choice, optional, required, switch, operand}
 use Rattle.uxn_arguments.specs.declared.task.AssembleTask.{AssembleTask}
 use Rattle.uxn_arguments.specs.declared.task.DebugTask.{DebugTask}
@@ -21,12 +22,9 @@ run_choices =
     switch (codes "rom") ∷ optional (codes "budget") ∷ optional (codes "script") ∷ optional (codes "root") ∷ optional (codes "frames")
     ∷ optional (codes "samples") ∷ optional (codes "report") ∷ []
 
-abbrev pub debug_choices : List Choice
-debug_choices = required (codes "commands") ∷ required (codes "log") ∷ optional (codes "symbols") ∷ []
-
 abbrev pub choices_of : Command → List Choice
 choices_of command.Play = run_choices
-choices_of command.Debug = debug_choices ++ run_choices
+choices_of command.Debug = required (codes "commands") ∷ required (codes "log") ∷ optional (codes "symbols") ∷ run_choices
 choices_of command.Assemble = required (codes "out") ∷ optional (codes "symbols") ∷ optional (codes "listing") ∷ []
 choices_of command.Disassemble = optional (codes "symbols") ∷ []
 choices_of command.Generate = []

@@ -1,7 +1,8 @@
 -- What the values on the command line mean: numbers, and paths (profile).
-use Rattle.std.specs.Prelude.{ℕ, List, Option, Some, None, option_and_then, ok_or, Result, Ok, Err}
+use Rattle.std.specs.Prelude.{ℕ, List, Option, Some, None, option_and_then, option_map, ok_or, Result, Ok, Err}
+use Rattle.std.specs.Option.{option_transpose}
+use Rattle.std.specs.Result.{result_ok}
 use Rattle.uxn_limits.specs.declared.limits.TheConstants.{GREATEST_BUDGET, USUAL_BUDGET, MOST_ROUTINES}
-use Rattle.uxn_io_traits.specs.declared.paths.PathFault.{PathFault}
 use Rattle.uxn_io_traits.specs.ByteList.{tight}
 use Rattle.uxn_io_traits.specs.PathText.{path_of}
 use Rattle.text_lines.specs.Numbers.{number_within}
@@ -27,20 +28,12 @@ abbrev pub requested_count : Option (List ℕ) → Option ℕ
 requested_count word = option_and_then (number_within 1 MOST_ROUTINES) word
 
 -- each word that names a file is a path
-abbrev pub validated_path : List ℕ → Result (List ℕ) PathFault → Result (List ℕ) WordFault
-validated_path word (Err fault) = Err (NoPath (tight word))
-validated_path word (Ok path) = Ok path
-
 abbrev pub requested_path : List ℕ → Result (List ℕ) WordFault
-requested_path word = validated_path word (path_of word)
+requested_path word = ok_or (result_ok (path_of word)) (NoPath (tight word))
 
 -- one that has to be given, and one that may be missing
 abbrev pub required_path : Values → List ℕ → Result (List ℕ) WordFault
 required_path at name = then_steps (ok_or (at name) NotUnderstood) requested_path
 
-abbrev pub path_if_given : Option (List ℕ) → Result (Option (List ℕ)) WordFault
-path_if_given None = Ok None
-path_if_given (Some word) = then_steps (requested_path word) (λ path. Ok (Some path))
-
 abbrev pub optional_path : Values → List ℕ → Result (Option (List ℕ)) WordFault
-optional_path at name = path_if_given (at name)
+optional_path at name = option_transpose (option_map requested_path (at name))

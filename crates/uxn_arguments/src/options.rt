@@ -2,7 +2,8 @@
 ghost use Rattle.std.specs.Prelude.{◌≡◌, ◌≤◌, IfOk, IfSome, option_map, option_and_then};
 ghost use Rattle.option_table.specs.Words.{choices_in};
 ghost use Rattle.option_table.specs.Parsing.{found_value};
-ghost use Rattle.uxn_arguments.specs.Options.{choices_of, debug_task, debugger_of, run_task, requested_run, assemble_task, disassemble_task, requested_task, HasBudget};
+ghost use Rattle.uxn_arguments.specs.Options.{choices_of, debug_task, debugger_of, run_task, requested_run};
+ghost use Rattle.uxn_arguments.specs.Options.{assemble_task, disassemble_task, requested_task, HasBudget};
 ghost use Rattle.uxn_arguments.specs.Values.{optional_path, requested_budget, requested_count, requested_path, required_path};
 ghost use Rattle.uxn_arguments.specs.ReadsArguments.{ReadsArguments};
 
@@ -129,6 +130,7 @@ fn optional_path(alloc: Global, found: &Found<'_>, name: &str) -> Result<Option<
 }
 
 /// What a debugger is asked.
+#[inline(never)]
 fn debug_task(alloc: Global, found: &Found<'_>) -> Result<DebugTask, WordStop>
     ensures { ReadsArguments result (debug_task (found_value found.now)) }
 {
@@ -161,6 +163,7 @@ fn debugger(
 }
 
 /// What a run is asked.
+#[inline(never)]
 fn run_task(alloc: Global, found: &Found<'_>, budget: u32, file: Path) -> Result<RunTask, WordStop>
     ensures task { ReadsArguments result (run_task (found_value found.now) budget file) }
     ensures budget { IfOk result (λ run. run.budget ≡ budget) }
@@ -197,6 +200,7 @@ fn requested_run(alloc: Global, command: Command, found: &Found<'_>) -> Result<T
 }
 
 /// What `asm` is asked.
+#[inline(never)]
 fn assemble_task(alloc: Global, found: &Found<'_>) -> Result<AssembleTask, WordStop>
     ensures { ReadsArguments result (assemble_task (found_value found.now)) }
 {
@@ -213,6 +217,7 @@ fn assemble_task(alloc: Global, found: &Found<'_>) -> Result<AssembleTask, WordS
 }
 
 /// What `dis` is asked.
+#[inline(never)]
 fn disassemble_task(alloc: Global, found: &Found<'_>) -> Result<DisassembleTask, WordStop>
     ensures { ReadsArguments result (disassemble_task (found_value found.now)) }
 {

@@ -1,8 +1,9 @@
 -- The names that most proofs of this crate cite, passed on from one place. Declares nothing.
+pub use Rattle.std.proofs.lemmas.Grind.{common_steps}
 pub use Rattle.std.proofs.Common.{◌≡◌, ℕ, Bool, true, false, List, [], ◌∷◌, ◌++◌, refl, ap, sym, ◌∙◌, Some, ◌≤◌, ◌⊎◌, if◌then◌else◌, inl, inr, subst}
-pub use Rattle.std.proofs.Common.{arith, ◌≢◌, ◌<◌, map, length, append_assoc, append-nil, rules, true≢false, not, suc, zero, cond, nat_le, ◌==◌, take}
-pub use Rattle.std.proofs.Common.{drop, take-append-drop, length-drop, ap₂, ◌&&◌, ◌+◌}
-pub use Rattle.std.proofs.lemmas.Bool.{or_parts, false_from_ne_true, cases_lt, le-leb, and_parts}
+pub use Rattle.std.proofs.Common.{arith, ◌≢◌, ◌<◌, map, length, append_assoc, append-nil, rules, true≢false, suc, zero, cond, take, drop}
+pub use Rattle.std.proofs.Common.{take-append-drop, length-drop, ◌+◌}
+pub use Rattle.std.proofs.lemmas.Bool.{or_parts, false_from_ne_true}
 pub use Rattle.std.proofs.lemmas.List.{map-append, length-map}
 pub use Rattle.std.proofs.lemmas.List.Folds.{list_any-append}
 pub use Rattle.std.proofs.lemmas.Option.{IfSome_then}
@@ -15,16 +16,17 @@ pub use Rattle.std.specs.Prelude.{Option, None, option_map, IfSome, Result, Ok, 
 pub use Rattle.std.specs.Prelude.{IsSome, fold}
 pub use Rattle.std.specs.Str.{bytes_eq}
 pub use Rattle.uxn_io_traits.specs.ChangeLaws.{files-contents, changed_by-err, changed_by-append, changed_by-out, files_by-append, extended-nothing}
-pub use Rattle.uxn_io_traits.specs.ChangeLaws.{extended-extended, cut-first}
-pub use Rattle.uxn_io_traits.specs.Changes.{can_create, with_appended}
-pub use Rattle.uxn_io_traits.specs.Ended.{IsOfTree, AreOfTree, TreeLooked, SinkEnded, Done, CutShort, Ended, blame_of_tree, to_err}
-pub use Rattle.uxn_io_traits.specs.EndedLaws.{outside-of-tree, outside-of-out, outside-of-err, changed_by-files, ended-then, ended-first, looked-ended}
-pub use Rattle.uxn_io_traits.specs.EndedLaws.{looked-nothing}
+pub use Rattle.uxn_io_traits.specs.ChangeLaws.{extended-extended}
+pub use Rattle.uxn_io_traits.specs.Changes.{with_appended}
+pub use Rattle.uxn_io_traits.specs.Ended.{IsOfTree, AreOfTree, TreeLooked, SinkEnded, Done, CutShort, Ended, blame_of_tree, to_err, to_out, appending}
+pub use Rattle.uxn_io_traits.specs.EndedLaws.{outside-of-tree, outside-of-out, outside-of-err, changed_by-files, ended-then, ended-first}
+pub use Rattle.uxn_io_traits.specs.EndedLaws.{looked-ended, looked-nothing}
 pub use Rattle.uxn_io_traits.specs.FaultLaws.{ledger-then, counted-same, ledger-same}
 pub use Rattle.uxn_io_traits.specs.Faults.{Ledger, AllCounted, Nobody, TheTree, ASink, counts, Counts, Rose, Blame}
 pub use Rattle.uxn_io_traits.specs.Files.{Nodes, Node, File, bytes_of, file_bytes_at, is_folder, is_folder_at}
 pub use Rattle.uxn_io_traits.specs.NodeLaws.{get_put, same_path}
-pub use Rattle.uxn_io_traits.specs.Outside.{Change, ToOut, ToErr, Creates, ToFile, Removes, World, changed_files, changed, changed_by, files_by, IsCutOff}
+pub use Rattle.uxn_io_traits.specs.Outside.{Change, ToOut, ToErr, Creates, ToFile, Removes, World, changed_files, changed, changed_by, files_by}
+pub use Rattle.uxn_io_traits.specs.Outside.{IsCutOff}
 pub use Rattle.uxn_io_traits.specs.State.{Outside, SinkState, TreeState, outside}
 pub use Rattle.uxn_io_traits.specs.Known.{extended, HasTakenPrefix}
 pub use Rattle.uxn_io_traits.specs.declared.sinks.Failed.{Failed}
@@ -59,49 +61,43 @@ pub use Rattle.uxn_arguments.specs.declared.task.Task.{Task}
 pub use Rattle.uxn_task_files.proofs.PlaceLemmas.{clash_parts, none_last, none_each, count-parts, clash_from, one_if, none_among, count-first}
 pub use Rattle.uxn_task_files.proofs.PlaceLemmas.{meets_parts, meets_one}
 pub use Rattle.uxn_task_files.specs.Blame.{stop_blame, status_blame, as_step, halted_by_tree, result_blame, OnRefused}
-pub use Rattle.uxn_task_files.specs.Held.{model_of_files, model_of_program, model_of_machines, model_of_inputs}
+pub use Rattle.uxn_task_files.specs.Held.{model_of_program, model_of_machines}
 pub use Rattle.uxn_task_files.specs.Lines.{refusal_line, refusal_text}
-pub use Rattle.uxn_task_files.specs.Made.{MakesOutputs, WritesOutputs, Made, HalfDone, AreFree}
+pub use Rattle.uxn_task_files.specs.Made.{MakesOutputs, WritesOutputs, Made, AreFree}
 pub use Rattle.uxn_task_files.specs.Puts.{Puts}
 pub use Rattle.uxn_task_files.specs.Request.{apart, validated_clash, refused}
 unfoldable pub use Rattle.uxn_task_files.specs.Request.{request}
-pub use Rattle.uxn_task_files.specs.Statuses.{Reason, Status, Exits, Refuses, EndsBy, number, early_status, IsRefusedFor, IsEarly, status_of, Illegal}
-pub use Rattle.uxn_task_files.specs.Statuses.{Pathless, NoInput, FaultySource, FaultyScript, FaultyCommands, Unfit, FaultySetup, reason_of, IsRefusing}
-pub use Rattle.uxn_task_files.specs.Statuses.{IsOfWords}
+pub use Rattle.uxn_task_files.specs.Statuses.{early_status, IsRefusedWith, IsEarly, status_of, IsRefusing}
 pub use Rattle.uxn_task_files.specs.World.{Text, world, requested_output, text_paths}
-pub use Rattle.uxn_task_files.specs.Writing.{creating_all, filling, filling_all}
+pub use Rattle.uxn_task_files.specs.Writing.{creating_all, filling_all}
 unfoldable pub use Rattle.uxn_task_files.specs.Writing.{writing}
 pub use Rattle.uxn_task_files.specs.declared.refusal.Halt.{Halt}
 pub use Rattle.uxn_task_files.specs.declared.refusal.Halt.TheVariants.{Refused, Stopped}
 pub use Rattle.uxn_task_files.specs.declared.refusal.Refusal.{Refusal}
-pub use Rattle.uxn_cli.specs.Answer.{HasUnknownContents, HasOutcome, HasDone, HasDoneWork, HasDoneNothing, MayStop, AnswersCall, Performs, HasPrefix}
-pub use Rattle.uxn_cli.specs.Answer.{ListsFolder}
+pub use Rattle.uxn_cli.specs.Answer.{HasUnknownContents, HasOutcome, HasDone, HasDoneWork, MayRunOut, MayStop, AnswersCall, Performs}
 pub use Rattle.uxn_cli.specs.Call.{Call, call_request, step_status}
-pub use Rattle.uxn_cli.specs.Causes.{tree_verdict, EndsWith, IsExactly, IsAside, KeepsOthers}
-pub use Rattle.uxn_cli.specs.Clauses.{HasStatuses, ComesOut, LeavesTheRest, GivesTheSame}
-pub use Rattle.uxn_cli.specs.Refused.{OnlyPutsLine}
-pub use Rattle.uxn_cli.specs.Truncated.{IsComplete, IsUnchangedWithoutMemory, IsCutShort, IsOutputOf, HoldsFilePrefix, IsPrefixOf, HoldsPrefixes, LeavesPrefixes}
-pub use Rattle.uxn_cli.specs.Console.{console_script}
+pub use Rattle.uxn_cli.specs.Causes.{tree_verdict, EndsWith, IsExactly, PutsLine, IsAside, KeepsOthers}
+pub use Rattle.uxn_cli.specs.Clauses.{HasStatuses, EndsEarlyByFaults, IsCutShort, ComesOut, LeavesTheRest, GivesTheSame}
+pub use Rattle.uxn_cli.specs.Truncated.{HoldsFilePrefix, IsPrefixOf, HoldsPrefixes, LeavesPrefixes}
 pub use Rattle.uxn_line.specs.Streams.{is_of_console, clock_by, exit_code_at}
-pub use Rattle.uxn_cli.specs.RunJob.{trace_of, RunJob, job_outputs, first_state, log_texts, RootView, Debugging, debugging, first_devices, root_view_in, state_shown, no_root_view}
-pub use Rattle.uxn_cli.specs.RunJob.{report_of, common_lines, further_lines}
+pub use Rattle.uxn_cli.specs.RunJob.{trace_of, RunJob, job_outputs, first_state, log_texts, RootView, Debugging, debugging, first_devices}
+pub use Rattle.uxn_cli.specs.RunJob.{root_view_in, state_shown, no_root_view, report_of, common_lines, further_lines}
 unfoldable pub use Rattle.uxn_cli.specs.RunJob.{reference_trace, log_text, report_text}
 pub use Rattle.uxn_cli.specs.Joined.{LineGoesOn, job_of_joined, LineHasDone, joined_plan}
-pub use Rattle.uxn_cli.specs.Outcome.{line_exit, Outcome, outcome_of, ShowsOutcome, reporting, line_bytes, printing}
+pub use Rattle.uxn_cli.specs.Outcome.{line_exit, Outcome, outcome_of, reporting, line_bytes, written_paths, root_of_work, IsOutputOf, GivesOutcome}
 unfoldable pub use Rattle.uxn_cli.specs.Outcome.{running}
 pub use Rattle.uxn_cli.specs.Outside.{DoesWork, HostState, host_state, observed_outside}
-pub use Rattle.uxn_cli.specs.Prepared.{IsPlanned, AreNew, IsReadyRun, prepared_debugging, prepared_job, prepared_plan}
-pub use Rattle.uxn_cli.specs.Refused.{HasNoRoot, AtMostOne, IsTold, CountsRefusals, PassesNoneOver}
-pub use Rattle.uxn_cli.specs.Room.{TreeSuffices, SinksSuffice}
-pub use Rattle.uxn_cli.specs.Verdict.{Work, Run, Write, Print, RunLine, accepted_summary, Plan, plan_of, accepted_line, inquiry_of}
+pub use Rattle.uxn_cli.specs.Prepared.{IsPlanned, AreNew, IsReadyRun, prepared_debugging, prepared_job, prepared_plan, printed_plan}
+pub use Rattle.uxn_cli.specs.Refused.{HasNoRoot, AtMostOne, CountsRefusals, PassesNoneOver}
+pub use Rattle.uxn_cli.specs.Verdict.{Work, Run, Write, Print, RunLine, accepted_summary, Plan, plan_of, accepted_line, inquiry_of, run_plan, planned}
+pub use Rattle.uxn_cli.specs.Verdict.{line_job}
 unfoldable pub use Rattle.uxn_cli.specs.Verdict.{run_plan_of, line_plan_of, work_of}
-pub use Rattle.uxn_cli.specs.Verdict.{run_plan, write_plan, text_plan, run_job, planned, line_plan}
 pub use Rattle.uxn_inquiry.specs.Inquiry.{Inquiry, Answer, and_then, answer_in}
 pub use Rattle.uxn_inquiry.specs.Inquires.{Inquires, Says}
-pub use Rattle.uxn_task_files.proofs.GivesLemmas.{IsOfInputs, AsksFor, IsAsked, asks-then, asked-then, run-asked, disassembly-asked, machines-asked, files-asked}
-pub use Rattle.uxn_task_files.proofs.GivesLemmas.{outputs-asked}
-pub use Rattle.uxn_task_files.specs.Accepted.{Loaded, debug_labels, GivenInputs, free_outputs, Machines}
+pub use Rattle.uxn_task_files.proofs.GivesLemmas.{IsOfInputs, AsksFor, asks-then, asked-then, run-asked, disassembly-asked, machines-asked}
+pub use Rattle.uxn_task_files.proofs.GivesLemmas.{files-asked, outputs-asked}
+pub use Rattle.uxn_task_files.specs.Accepted.{debug_labels, free_outputs}
 unfoldable pub use Rattle.uxn_task_files.specs.Accepted.{run_of, files_of, disassembly_of, machines_of}
 pub use Rattle.uxn_inquiry.specs.Gives.{Gives}
-pub use Rattle.uxn_cli.specs.Workload.{empty_world, lone_trace, console_text, HasRunAlone, workload_trace, run_summary, trace_summary}
+pub use Rattle.uxn_cli.specs.Workload.{lone_trace, HasRunAlone, run_summary}
 unfoldable pub use Rattle.uxn_cli.specs.Workload.{workload_text}

@@ -7,10 +7,7 @@ where_known None P all = tt
 where_known (Some nodes) P all = all nodes refl
 
 -- and this too
-pub where_both : (tree : Option Nodes) (P Q : Nodes → Type 0) → IfSome tree P → ((nodes : Nodes) → tree ≡ Some nodes → P nodes → Q nodes) → IfSome tree Q
+pub where_both : (tree : Option Nodes) (P Q : Nodes → Type 0) → IfSome tree P → ((nodes : Nodes) → tree ≡ Some nodes → P nodes → Q nodes)
+    → IfSome tree Q
 where_both None P Q holds next = tt
 where_both (Some nodes) P Q holds next = next nodes refl holds
-
--- what holds whatever its contents
-pub always : (tree : Option Nodes) (A : Nodes → Type 0) (P : Type 0) → P → IfSome tree (λ nodes. A nodes → P)
-always tree A P is = where_known tree (λ nodes. A nodes → P) (λ nodes contents a. is)

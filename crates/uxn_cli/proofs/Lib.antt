@@ -16,6 +16,4 @@ pub mod AfterLemmas
 pub mod RootLemmas
 pub mod ObservationLemmas
 pub mod IsolationLemmas
-pub mod WorkloadLemmas
-pub mod JoiningLemmas
 pub mod RefusalLemmas

@@ -1,16 +1,16 @@
 -- What a file holds, where the changes that write it were truncated.
 use Rattle.uxn_cli.proofs.Common.{◌≡◌, ℕ, ◌⊎◌, Bool, true, false, List, [], ◌∷◌, ◌++◌, map, refl, ap, sym, ◌∙◌, subst, inl, inr, append_assoc}
-use Rattle.uxn_cli.proofs.Common.{append-nil, Option, Some, None, Result, Ok, Err, IfOk, ◌||◌, list_any, unwrap_or, bytes_eq, bytes_eq-Decides}
-use Rattle.uxn_cli.proofs.Common.{changed_by-append, files_by-append, files-contents, extended-nothing, extended-extended, Nodes, Node, File, bytes_of}
-use Rattle.uxn_cli.proofs.Common.{file_bytes_at, get_put, Change, ToOut, ToErr, Creates, ToFile, Removes, World, changed_files, files_by, changed}
-use Rattle.uxn_cli.proofs.Common.{changed_by, extended, new_core, IsOutside, Each, each-append, each-prefix, each-map, inserted-other, removed-other}
-use Rattle.uxn_cli.proofs.Common.{contents_at, first_clash, HasApartOutputs, Task, Refusal, Call, call_request, tree_verdict, IsOutputOf, HoldsFilePrefix}
-use Rattle.uxn_cli.proofs.Common.{IsCutOff, IsEarly, IsPrefixOf, HoldsPrefixes, LeavesPrefixes, IsCutShort, RunJob, job_outputs, first_state, reference_trace, trace_of, log_texts, report_of, outcome_of}
-use Rattle.uxn_cli.proofs.Common.{reporting, running, creating_all, filling, filling_all, writing, refused, apart, validated_clash, request, then_steps, Work, Run}
-use Rattle.uxn_cli.proofs.Common.{Write, Print, RunLine, root_view_in, Text, ComesOut}
+use Rattle.uxn_cli.proofs.Common.{append-nil, Option, Some, None, Result, Ok, Err, IfOk, list_any, unwrap_or, bytes_eq, bytes_eq-Decides}
+use Rattle.uxn_cli.proofs.Common.{changed_by-append, files_by-append, files-contents, extended-nothing, extended-extended, Nodes, Node, File}
+use Rattle.uxn_cli.proofs.Common.{bytes_of, file_bytes_at, get_put, Change, ToOut, ToErr, Creates, ToFile, Removes, World, changed_files, files_by}
+use Rattle.uxn_cli.proofs.Common.{changed, changed_by, extended, IsOutside, Each, each-append, each-prefix, each-map, inserted-other, removed-other}
+use Rattle.uxn_cli.proofs.Common.{contents_at, first_clash, HasApartOutputs, Task, Refusal, Call, call_request, tree_verdict, IsOutputOf}
+use Rattle.uxn_cli.proofs.Common.{HoldsFilePrefix, IsCutOff, IsEarly, IsPrefixOf, HoldsPrefixes, LeavesPrefixes, IsCutShort, RunJob, job_outputs}
+use Rattle.uxn_cli.proofs.Common.{reference_trace, trace_of, log_texts, report_of, outcome_of, reporting, running, creating_all, appending}
+use Rattle.uxn_cli.proofs.Common.{filling_all, writing, refused, apart, validated_clash, request, then_steps, Work, Run, Write, Print, RunLine, Text}
+use Rattle.uxn_cli.proofs.Common.{ComesOut, arith, common_steps}
 use Rattle.vector_loop.specs.AppendingLaws.{Adds, run-adds}
 use Rattle.uxn_arguments.specs.Words.{task_of}
-use Rattle.uxn_cli.specs.RunJob.{wanted_outputs}
 use Rattle.std.specs.FinMap as fin
 use Rattle.uxn_cli.proofs.GuaranteedLemmas.{where_known, where_both}
 use Rattle.uxn_cli.proofs.ClauseLemmas.{early_known, ends_known, outcome_usual}
@@ -20,7 +20,8 @@ use Rattle.uxn_cli.proofs.GivesLemmas.{verdict-writes}
 module _ (path : List ℕ) where
   filling-adds : (texts : List Text) → Each (Adds path) (filling_all texts)
   filling-adds [] = tt
-  filling-adds (text ∷ texts) = each-append (Adds path) (filling text) (filling_all texts) (each-map (Adds path) (λ byte. ToFile text.path byte) text.bytes (λ byte. tt)) (filling-adds texts)
+  filling-adds (text ∷ texts) = each-append (Adds path) (appending text.path text.bytes) (filling_all texts)
+      (each-map (Adds path) (λ byte. ToFile text.path byte) text.bytes (λ byte. tt)) (filling-adds texts)
 
   each-last : (first last : List Change) → Each (Adds path) (first ++ last) → Each (Adds path) last
   each-last [] last adds = adds
@@ -33,22 +34,26 @@ module _ (path : List ℕ) where
   nothing-more : (bytes : List ℕ) (nodes : Nodes) → fin.get nodes path ≡ Some (File bytes) → GetsMore bytes nodes
   nothing-more bytes nodes is = ([], is ∙ ap (λ b. Some (File b)) (sym (append-nil bytes)))
 
-  added-one : (bytes : List ℕ) (nodes : Nodes) (change : Change) → Adds path change → fin.get nodes path ≡ Some (File bytes) → GetsMore bytes (changed_files change nodes)
+  added-one : (bytes : List ℕ) (nodes : Nodes) (change : Change) → Adds path change → fin.get nodes path ≡ Some (File bytes)
+      → GetsMore bytes (changed_files change nodes)
   added-one bytes nodes (ToOut byte) adds is = nothing-more bytes nodes is
   added-one bytes nodes (ToErr byte) adds is = nothing-more bytes nodes is
-  added-one bytes nodes (Creates other) adds is = nothing-more bytes (changed_files (Creates other) nodes) (inserted-other nodes path other (File []) adds ∙ is)
+  added-one bytes nodes (Creates other) adds is = grind (arith, common_steps, nothing-more, inserted-other)
   added-one bytes nodes (Removes other) adds is = nothing-more bytes (changed_files (Removes other) nodes) (removed-other nodes path other adds ∙ is)
   added-one bytes nodes (ToFile other byte) adds is = go (bytes_eq path other) refl
     where
       go : (b : Bool) → bytes_eq path other ≡ b → GetsMore bytes (changed_files (ToFile other byte) nodes)
-      go false apart = nothing-more bytes (changed_files (ToFile other byte) nodes) (inserted-other nodes path other (File (file_bytes_at nodes other ++ byte ∷ [])) apart ∙ is)
+      go false apart = nothing-more bytes (changed_files (ToFile other byte) nodes)
+          (inserted-other nodes path other (File (file_bytes_at nodes other ++ byte ∷ [])) apart ∙ is)
       go true same = (
         byte ∷ [],
         ap (λ q. fin.get (changed_files (ToFile q byte) nodes) path) (sym ((bytes_eq-Decides path other).0 same))
-            ∙ get_put nodes path (File (file_bytes_at nodes path ++ byte ∷ [])) ∙ ap (λ (o : Option Node). Some (File (unwrap_or (bytes_of o) [] ++ byte ∷ []))) is,
+            ∙ get_put nodes path (File (file_bytes_at nodes path ++ byte ∷ []))
+            ∙ ap (λ (o : Option Node). Some (File (unwrap_or (bytes_of o) [] ++ byte ∷ []))) is,
       )
 
-  added : (bytes : List ℕ) (nodes : Nodes) (changes : List Change) → Each (Adds path) changes → fin.get nodes path ≡ Some (File bytes) → GetsMore bytes (files_by nodes changes)
+  added : (bytes : List ℕ) (nodes : Nodes) (changes : List Change) → Each (Adds path) changes → fin.get nodes path ≡ Some (File bytes)
+      → GetsMore bytes (files_by nodes changes)
   added bytes nodes [] adds is = nothing-more bytes nodes is
   added bytes nodes (change ∷ changes) adds is =
       let one = added-one bytes nodes change adds.0 is in
@@ -57,7 +62,8 @@ module _ (path : List ℕ) where
 
   -- the node is as it was, or a prefix of the file that is to be there
   abbrev IsPrefix : Option Node → Option Node → Option Node → Type 0
-  IsPrefix before now whole = (now ≡ before) ⊎ ((bytes : List ℕ) × (rest : List ℕ) × (now ≡ Some (File bytes)) × (whole ≡ Some (File (bytes ++ rest))))
+  IsPrefix before now whole = (now ≡ before)
+      ⊎ ((bytes : List ℕ) × (rest : List ℕ) × (now ≡ Some (File bytes)) × (whole ≡ Some (File (bytes ++ rest))))
 
   -- a file is made among others, all of which are then added to
   module _ (later rest : List Change) (adds : Each (Adds path) later) (before : Option Node) where
@@ -71,13 +77,11 @@ module _ (path : List ℕ) where
         let last = added first.0 (files_by nodes made) rest (each-last made rest all) first.1 in
         inr (first.0, last.0, first.1, ap (λ n. fin.get n path) (files_by-append nodes made rest) ∙ last.1)
 
-    created : (paths : List (List ℕ)) (nodes : Nodes) → fin.get nodes path ≡ Some (File []) → fin.get (files_by nodes (creating_all paths)) path ≡ Some (File [])
+    created : (paths : List (List ℕ)) (nodes : Nodes) → fin.get nodes path ≡ Some (File [])
+        → fin.get (files_by nodes (creating_all paths)) path ≡ Some (File [])
     created [] nodes is = is
-    created (other ∷ paths) nodes is = created paths (changed_files (Creates other) nodes) (go (bytes_eq path other) refl)
-      where
-        go : (b : Bool) → bytes_eq path other ≡ b → fin.get (changed_files (Creates other) nodes) path ≡ Some (File [])
-        go false apart = inserted-other nodes path other (File []) apart ∙ is
-        go true same = ap (λ q. fin.get (changed_files (Creates q) nodes) path) (sym ((bytes_eq-Decides path other).0 same)) ∙ get_put nodes path (File [])
+    created (other ∷ paths) nodes is =
+        created paths (changed_files (Creates other) nodes) (grind (arith, common_steps, inserted-other, get_put, bytes_eq-Decides))
 
     pub prefix-of : (paths : List (List ℕ)) (nodes : Nodes) (made : List Change) → creating_all paths ++ later ≡ made ++ rest
         → ((fin.get nodes path ≡ before) × (list_any (bytes_eq path) paths ≡ true)) ⊎ (fin.get nodes path ≡ Some (File [])) → Prefixes nodes made
@@ -86,57 +90,66 @@ module _ (path : List ℕ) where
     prefix-of (other ∷ paths) nodes [] parts (inl waits) = inl waits.0
     prefix-of (other ∷ paths) nodes [] parts (inr is) =
         let all = added [] (files_by nodes (creating_all (other ∷ paths))) later adds (created (other ∷ paths) nodes is) in
-        inr ([], all.0, is, ap (λ changes. fin.get (files_by nodes changes) path) (sym parts) ∙ ap (λ n. fin.get n path) (files_by-append nodes (creating_all (other ∷ paths)) later) ∙ all.1)
+        inr (
+          [],
+          all.0,
+          is,
+          ap (λ changes. fin.get (files_by nodes changes) path) (sym parts)
+              ∙ ap (λ n. fin.get n path) (files_by-append nodes (creating_all (other ∷ paths)) later) ∙ all.1,
+        )
     prefix-of (other ∷ paths) nodes (change ∷ made) parts state =
         let same : Creates other ≡ change = cc in
         let more : creating_all paths ++ later ≡ made ++ rest = cc in
-        subst (λ (c : Change). Prefixes nodes (c ∷ made)) same (prefix-of paths (changed_files (Creates other) nodes) made more (go (bytes_eq path other) refl state))
-      where
-        go : (b : Bool) → bytes_eq path other ≡ b → ((fin.get nodes path ≡ before) × (list_any (bytes_eq path) (other ∷ paths) ≡ true)) ⊎ (fin.get nodes path ≡ Some (File []))
-            → ((fin.get (changed_files (Creates other) nodes) path ≡ before) × (list_any (bytes_eq path) paths ≡ true)) ⊎ (fin.get (changed_files (Creates other) nodes) path ≡ Some (File []))
-        go true same state = inr (ap (λ q. fin.get (changed_files (Creates q) nodes) path) (sym ((bytes_eq-Decides path other).0 same)) ∙ get_put nodes path (File []))
-        go false apart (inl waits) = inl (inserted-other nodes path other (File []) apart ∙ waits.0, ap (λ b. b || list_any (bytes_eq path) paths) (sym apart) ∙ waits.1)
-        go false apart (inr is) = inr (inserted-other nodes path other (File []) apart ∙ is)
+        subst (λ (c : Change). Prefixes nodes (c ∷ made)) same
+        (prefix-of paths (changed_files (Creates other) nodes) made more
+        (grind (arith, common_steps, inserted-other, get_put, bytes_eq-Decides)))
 
 -- the run of a job only adds to files outside its root
 trace-adds : (path : List ℕ) (files : Option Nodes) (job : RunJob) → IsOutside job.task.root path → Each (Adds path) (trace_of files job).changes
 unfolding reference_trace
-trace-adds path files job outside =
-    run-adds path job.task.budget (wanted_outputs job.task.frames job.task.samples) job.script (first_state (new_core job.rom) job.script (root_view_in files job.task.root))
-    (record { outside = outside; first = refl; second = refl })
+trace-adds = grind (arith, common_steps, run-adds)
 
 -- work that writes a file
-work-prefix : (path : List ℕ) (files : Option Nodes) (task : Task) (nodes : Nodes) (work : Work) (made rest : List Change) → HasApartOutputs task → tree_verdict nodes (Ok task) ≡ Ok work
+work-prefix : (path : List ℕ) (files : Option Nodes) (task : Task) (nodes : Nodes) (work : Work) (made rest : List Change) → HasApartOutputs task
+    → tree_verdict nodes (Ok task) ≡ Ok work
     → IsOutputOf (Ok work) path → (outcome_of files (Ok work)).changes ≡ made ++ rest
     → IsPrefix path (fin.get nodes path) (fin.get (files_by nodes made) path) (fin.get (files_by nodes (outcome_of files (Ok work)).changes) path)
 unfolding running writing
 work-prefix path files task nodes (Run job) made rest apart e whole parts =
     let writes = verdict-writes nodes task (Run job) e in
     let outside = outputs-outside task path apart (ap (list_any (bytes_eq path)) (sym writes.paths) ∙ whole) in
-    let adds = each-append (Adds path) (reporting job.task.report job.script.version (trace_of files job)) (filling_all (log_texts job.debug (trace_of files job)))
-    (each-append (Adds path) (trace_of files job).changes (filling_all (report_of job.task.report job.script.version (trace_of files job).last)) (trace-adds path files job (rw writes.root outside))
-    (filling-adds path (report_of job.task.report job.script.version (trace_of files job).last))) (filling-adds path (log_texts job.debug (trace_of files job))) in
+    let adds = each-append (Adds path) (reporting job.task.report job.script.version (trace_of files job))
+    (filling_all (log_texts job.debug (trace_of files job)))
+    (each-append (Adds path) (trace_of files job).changes (filling_all (report_of job.task.report job.script.version (trace_of files job).last))
+    (trace-adds path files job (rw writes.root outside))
+    (filling-adds path (report_of job.task.report job.script.version (trace_of files job).last)))
+    (filling-adds path (log_texts job.debug (trace_of files job))) in
     subst (λ changes. IsPrefix path (fin.get nodes path) (fin.get (files_by nodes made) path) (fin.get (files_by nodes changes) path)) (sym parts)
     (prefix-of path _ rest adds (fin.get nodes path) (job_outputs job) nodes made parts (inl (refl, whole)))
 work-prefix path files task nodes (Write texts) made rest apart e whole parts =
     subst (λ changes. IsPrefix path (fin.get nodes path) (fin.get (files_by nodes made) path) (fin.get (files_by nodes changes) path)) (sym parts)
-    (prefix-of path (filling_all texts) rest (filling-adds path texts) (fin.get nodes path) (map (λ text. text.path) texts) nodes made parts (inl (refl, whole)))
-work-prefix path files task nodes (Print text) made rest apart e whole parts = absurd whole
-work-prefix path files task nodes (RunLine job) made rest apart e whole parts = absurd whole
+    (prefix-of path (filling_all texts) rest (filling-adds path texts) (fin.get nodes path) (map (λ text. text.path) texts) nodes made parts
+    (inl (refl, whole)))
+work-prefix path files task nodes (Print text) made rest apart e whole parts = absurd cc
+work-prefix path files task nodes (RunLine job) made rest apart e whole parts = absurd cc
 
 -- so of what was truncated
-pub holds-prefix : (path : List ℕ) (requested : Result Task Refusal) (before : World) (nodes : Nodes) (made rest : List Change) → IfOk requested HasApartOutputs → before.files ≡ Some nodes
+pub holds-prefix : (path : List ℕ) (requested : Result Task Refusal) (before : World) (nodes : Nodes) (made rest : List Change)
+    → IfOk requested HasApartOutputs → before.files ≡ Some nodes
     → (outcome_of before.files (tree_verdict nodes requested)).changes ≡ made ++ rest → IsOutputOf (tree_verdict nodes requested) path
-    → HoldsFilePrefix (contents_at path before.files) (contents_at path (changed_by before made).files) (contents_at path (changed_by before (outcome_of before.files (tree_verdict nodes requested)).changes).files)
-holds-prefix path (Err refusal) before nodes made rest apart contents parts whole = absurd whole
+    → HoldsFilePrefix (contents_at path before.files) (contents_at path (changed_by before made).files)
+    (contents_at path (changed_by before (outcome_of before.files (tree_verdict nodes requested)).changes).files)
+holds-prefix path (Err refusal) before nodes made rest apart contents parts whole = absurd cc
 holds-prefix path (Ok task) before nodes made rest apart contents parts whole = go (tree_verdict nodes (Ok task)) refl parts whole
   where
     stands : (changes : List Change) → contents_at path (changed_by before changes).files ≡ Some (fin.get (files_by nodes changes) path)
     stands changes = ap (contents_at path) (files-contents before changes) ∙ rw contents refl
 
-    go : (found : Result Work Refusal) → tree_verdict nodes (Ok task) ≡ found → (outcome_of before.files found).changes ≡ made ++ rest → IsOutputOf found path
-        → HoldsFilePrefix (contents_at path before.files) (contents_at path (changed_by before made).files) (contents_at path (changed_by before (outcome_of before.files found).changes).files)
-    go (Err refusal) e p w = absurd w
+    go : (found : Result Work Refusal) → tree_verdict nodes (Ok task) ≡ found → (outcome_of before.files found).changes ≡ made ++ rest
+        → IsOutputOf found path
+        → HoldsFilePrefix (contents_at path before.files) (contents_at path (changed_by before made).files)
+        (contents_at path (changed_by before (outcome_of before.files found).changes).files)
+    go (Err refusal) e p w = absurd cc
     go (Ok work) e p w = elim (work-prefix path before.files task nodes work made rest apart e w p) [
       | inl same ↦ inl (stands made ∙ ap Some same ∙ sym (ap (contents_at path) contents))
       | inr prefix ↦ inr (prefix.0, prefix.1, stands made ∙ ap Some prefix.2, stands (outcome_of before.files (Ok work)).changes ∙ ap Some prefix.3)
@@ -144,7 +157,8 @@ holds-prefix path (Ok task) before nodes made rest apart contents parts whole = 
 
 -- ---- what stands after an early end
 
-put_more : (contents : Option (List ℕ)) (byte : ℕ) (whole : Option (List ℕ)) → IsPrefixOf (extended contents (byte ∷ [])) whole → IsPrefixOf contents whole
+put_more : (contents : Option (List ℕ)) (byte : ℕ) (whole : Option (List ℕ)) → IsPrefixOf (extended contents (byte ∷ [])) whole
+    → IsPrefixOf contents whole
 put_more contents byte whole prefix = record { rest = byte ∷ prefix.rest; is = prefix.is ∙ extended-extended contents (byte ∷ []) prefix.rest }
 
 -- changes add to the outputs
@@ -173,7 +187,8 @@ requested_apart words = named (refused (task_of words))
 pub leaves_prefixes : (c : Call) → IsCutShort c → LeavesPrefixes c
 leaves_prefixes c short =
     let before = c.before.world in
-    where_both before.files (λ nodes. IsEarly c.status → IsCutOff before c.now.world (outcome_of before.files (tree_verdict nodes (call_request c))).changes) _ short
+    where_both before.files (λ nodes. IsEarly c.status
+    → IsCutOff before c.now.world (outcome_of before.files (tree_verdict nodes (call_request c))).changes) _ short
     (λ nodes contents is early.
     let verdict = tree_verdict nodes (call_request c) in
     let cut = is early in
@@ -196,6 +211,6 @@ is_cut_short c comes =
       | inl has ↦ absurd (outcome_usual (verdict nodes) before now c.status has is)
       | inr early ↦ elim (early_known (call_request c) before now nodes contents early.stop early.stands) [
         | inl same ↦ record { made = []; rest = (outcome_of before.files (verdict nodes)).changes; parts = refl; left = same }
-        | inr done ↦ done.1.cut
+        | inr done ↦ done.0
       ]
     ])

@@ -1,21 +1,20 @@
 -- Files that were refused, step by step.
-use Rattle.uxn_cli.proofs.Common.{◌≡◌, false, sym, ◌∙◌, inl, inr, ap, refl, List, ℕ, None, Some, Result, Ok, Err, TreeLooked, TreeState, SinkState, Stop}
-use Rattle.uxn_cli.proofs.Common.{Task, Refusal, Halt, Refused, Stopped, as_step, refusal_line, Puts, Reason, Status, number, status_of, AtMostOne}
-use Rattle.uxn_cli.proofs.Common.{CountsRefusals, PassesNoneOver, HasNoRoot, HostState, extended}
+use Rattle.uxn_cli.proofs.Common.{◌≡◌, false, inl, inr, List, ℕ, None, Result, Ok, Err, TreeLooked, TreeState, SinkState, Stop, Task, Refusal, Halt}
+use Rattle.uxn_cli.proofs.Common.{Refused, Stopped, as_step, refusal_line, Puts, IsRefusing, status_of, AtMostOne, CountsRefusals, PassesNoneOver}
+use Rattle.uxn_cli.proofs.Common.{HasNoRoot, HostState, arith, common_steps}
 use Rattle.uxn_io_traits.specs.Ended.{Refused as CreateRefused}
 use Rattle.uxn_task_files.specs.Made.{Refuses}
-use Rattle.uxn_task_files.specs.Statuses.{Refuses as Refusing}
 use Rattle.uxn_task_files.specs.declared.refusal.Refusal.TheVariants.{NoOutput}
 use Rattle.uxn_task_files.proofs.DidLemmas.{refused-then}
-use Rattle.uxn_cli.proofs.CauseLemmas.{IsStatus, one_status}
 
 module _ (a b c : TreeState) (err err_now : SinkState) (looked : TreeLooked false a b) where
   at-most-after : (P : List ℕ → Type 0) → AtMostOne b c P → AtMostOne a c P
   at-most-after P (inl none) = inl (refused-then None a b c looked.refusals looked.counted.promise none)
-  at-most-after P (inr one) = inr (one.0, sym looked.contents ∙ one.1, refused-then (Some one.0) a b c looked.refusals looked.counted.promise one.2, one.3)
+  at-most-after P (inr one) = grind (arith, common_steps, refused-then)
 
   -- it was looked at before
-  pub counts-after : (requested : Result Task Refusal) (r : Result ℕ Halt) → CountsRefusals requested b c err err_now r → CountsRefusals requested a c err err_now r
+  pub counts-after : (requested : Result Task Refusal) (r : Result ℕ Halt) → CountsRefusals requested b c err err_now r
+      → CountsRefusals requested a c err err_now r
   counts-after requested (Ok status) counts = λ any. at-most-after _ (counts any)
   counts-after requested (Err (Refused refusal)) counts = at-most-after _ counts
   counts-after requested (Err (Stopped stop)) counts = λ any. at-most-after _ (counts any)
@@ -23,36 +22,26 @@ module _ (a b c : TreeState) (err err_now : SinkState) (looked : TreeLooked fals
 -- a task that is refused for an output
 pub counts-refuses : (included paths : List (List ℕ)) (before now : TreeState) (refusal : Refusal) → Refuses included paths refusal before now
     → AtMostOne before now (λ path. refusal ≡ NoOutput path)
-counts-refuses included paths before now refusal refuses =
-    elim refuses.refusals [ inl none ↦ inl none | inr one ↦ inr (one.path, one.unknown, one.refused, one.names) ]
+counts-refuses = grind (arith, common_steps)
 
 -- a program that runs beneath a root is not spoken of, where its call is not refused; without a root it makes no file
-pub counts-run : (requested : Result Task Refusal) (before now : TreeState) (err err_now : SinkState) (status : Status) → IsStatus status
-    → ((reason : Reason) → status ≡ Refusing reason → ⊥) → (HasNoRoot requested → CreateRefused None before now) → PassesNoneOver requested before now err err_now (number status)
-counts-run requested before now err err_now status is usual runs (inl none) = inl (runs none)
-counts-run requested before now err err_now status is usual runs (inr refusing) = absurd (usual refusing.0 (one_status status (Refusing refusing.0) is tt refusing.1))
+pub counts-run : (requested : Result Task Refusal) (before now : TreeState) (err err_now : SinkState) (status : ℕ) → (IsRefusing status → ⊥)
+    → (HasNoRoot requested → CreateRefused None before now) → PassesNoneOver requested before now err err_now status
+counts-run requested before now err err_now status usual runs (inl none) = inl (runs none)
+counts-run requested before now err err_now status usual runs (inr refusing) = absurd (usual refusing)
 
 -- the line of a refusal was put, or was not
-pub counts-line : (requested : Result Task Refusal) (before : HostState) (now : TreeState) (err : SinkState) (refusal : Refusal) (err_now : SinkState) (result : Result ℕ Stop)
-    → AtMostOne before.tree now (λ path. refusal ≡ NoOutput path) → err ≡ before.err → Puts err err_now (refusal_line refusal) (status_of refusal) (as_step result)
+pub counts-line : (requested : Result Task Refusal) (before : HostState) (now : TreeState) (err : SinkState) (refusal : Refusal) (err_now : SinkState)
+    (result : Result ℕ Stop)
+    → AtMostOne before.tree now (λ path. refusal ≡ NoOutput path) → err ≡ before.err
+    → Puts err err_now (refusal_line refusal) (status_of refusal) (as_step result)
     → CountsRefusals requested before.tree now before.err err_now (as_step result)
-counts-line requested before now err refusal err_now (Ok status) counts kept puts = λ any. elim counts [
-  | inl none ↦ inl none
-  | inr one ↦ inr (
-    one.0,
-    one.1,
-    one.2,
-    inl (
-      puts.1 ∙ ap status_of one.3,
-      puts.0.holds ∙ ap (λ (e : SinkState). extended e.contents (refusal_line refusal)) kept ∙ ap (λ r. extended before.err.contents (refusal_line r)) one.3,
-    ),
-  )
-]
-counts-line requested before now err refusal err_now (Err stop) counts kept puts =
-    λ any. elim counts [ inl none ↦ inl none | inr one ↦ inr (one.0, one.1, one.2, inr (stop, refl)) ]
+counts-line requested before now err refusal err_now (Ok status) counts kept puts = grind (arith, common_steps)
+counts-line requested before now err refusal err_now (Err stop) counts kept puts = grind (arith, common_steps)
 
 -- the same of objects by other names
-pub passes-as : {T E : Type 0} (tree : T → TreeState) (sink : E → SinkState) (requested : Result Task Refusal) (before : TreeState) (now same : T) (err : SinkState) (err_now err_same : E)
+pub passes-as : {T E : Type 0} (tree : T → TreeState) (sink : E → SinkState) (requested : Result Task Refusal) (before : TreeState) (now same : T)
+    (err : SinkState) (err_now err_same : E)
     (status : ℕ) → now ≡ same → err_now ≡ err_same → PassesNoneOver requested before (tree now) err (sink err_now) status
     → PassesNoneOver requested before (tree same) err (sink err_same) status
 passes-as tree sink requested before now same err err_now err_same status a b passes = rw (← a, ← b) passes

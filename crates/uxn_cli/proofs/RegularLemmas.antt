@@ -1,23 +1,19 @@
 -- The moments of a run are regular: a debugger keeps the log over them.
-use Rattle.uxn_cli.proofs.Common.{◌≡◌, ℕ, zero, suc, ◌+◌, List, [], ◌∷◌, Some, refl, sym, ap, ◌∙◌, arith, map, slice_get, length-map, ScriptView}
-use Rattle.uxn_cli.proofs.Common.{Core, Outputs, State, AreCounted, CountingLaw, IsMachine, given_at, RunLaw, RootView, first_state, reference_trace, state_shown}
-use Rattle.vector_loop.specs.Run.{run}
+use Rattle.uxn_cli.proofs.Common.{◌≡◌, ℕ, zero, suc, ◌+◌, List, [], ◌∷◌, Some, refl, ap, ◌∙◌, arith, map, slice_get, length-map, ScriptView, Core}
+use Rattle.uxn_cli.proofs.Common.{Outputs, State, AreCounted, CountingLaw, IsMachine, given_at, RunLaw, RootView, reference_trace, state_shown}
+use Rattle.uxn_cli.proofs.Common.{common_steps}
 use Rattle.vector_loop.specs.Watch.{ports_stored}
 use Rattle.uxn_debugger.specs.Log.{Shown, moment_of_shown, IsRegular}
 
 counted-at : (count : ℕ) (states : List State) → AreCounted count states → (index : ℕ) (s : Shown) → slice_get (map state_shown states) index ≡ Some s
     → s.moment.instructions ≡ count + index
 counted-at count [] all index s is = absurd (cc)
-counted-at count (state ∷ states) all zero s is =
-    let same : state_shown state ≡ s = cc in
-    sym (ap (λ (s : Shown). s.moment.instructions) same) ∙ all.0 ∙ omega arith
+counted-at count (state ∷ states) all zero s is = grind (arith, common_steps)
 counted-at count (state ∷ states) all (suc index) s is = counted-at (count + 1) states all.1 index s is ∙ omega arith
 
 address-at : (states : List State) (index : ℕ) (s : Shown) → slice_get (map state_shown states) index ≡ Some s → s.moment.address ≡ s.core.at
 address-at [] index s is = absurd (cc)
-address-at (state ∷ states) zero s is =
-    let same : state_shown state ≡ s = cc in
-    sym (ap (λ (s : Shown). s.moment.address) same) ∙ ap (λ (s : Shown). s.core.at) same
+address-at (state ∷ states) zero s is = grind (arith, common_steps)
 address-at (state ∷ states) (suc index) s is = address-at states index s is
 
 given-all : (states : List State) → map moment_of_shown (map state_shown states) ≡ map given_at states
@@ -26,15 +22,7 @@ given-all [] = refl
 given-all (state ∷ states) = ap (λ given. given_at state ∷ given) (given-all states)
 
 pub is-regular : CountingLaw → RunLaw → (budget : ℕ) (outputs : Outputs) (script : ScriptView) (root_view : RootView) (core : Core) → IsMachine core
-    → IsRegular (map state_shown (reference_trace budget outputs script root_view core).moments) (state_shown (reference_trace budget outputs script root_view core).last)
+    → IsRegular (map state_shown (reference_trace budget outputs script root_view core).moments)
+    (state_shown (reference_trace budget outputs script root_view core).last)
 unfolding reference_trace
-is-regular counting run_law budget outputs script root_view core is =
-    let start = first_state core script root_view in
-    let trace = run budget outputs script start in
-    let counted = counting budget outputs script start in
-    record {
-      counts = λ index s here. counted-at 0 trace.moments counted.moments index s here ∙ omega arith;
-      addresses = address-at trace.moments;
-      count = counted.last ∙ omega (arith, length-map trace.moments state_shown);
-      memory = rw (given-all trace.moments) (run_law.in_row budget outputs script start is);
-    }
+is-regular = grind (arith, common_steps, counted-at, address-at, length-map, given-all)

@@ -1,22 +1,19 @@
 -- What `play` and `debug` do, step by step.
 use Rattle.uxn_cli.proofs.Common.{◌≡◌, ℕ, true, false, List, [], ◌∷◌, ◌++◌, map, append-nil, refl, ap, sym, ◌∙◌, subst, inl, inr, Option, Some, None}
 use Rattle.uxn_cli.proofs.Common.{Result, Ok, Err, OnOk, IfSome, is_err, IsSome, option_map, option_to_list, ◌||◌, ◌⊎◌, fold, list_any, bytes_eq}
-use Rattle.uxn_cli.proofs.Common.{bytes_eq-Decides, Failed, Label, with_appended, Nodes, Change, ToFile, World, changed_by, files_by, cut-first}
-use Rattle.uxn_cli.proofs.Common.{files-contents, Done, Ended, blame_of_tree, ended-then, ended-first, outside-of-tree, ledger-then, Blame, Nobody}
-use Rattle.uxn_cli.proofs.Common.{TheTree, ASink, TreeState, SinkState, Outside, outside, Stop, TreeFault, SinkFault, NoMemory, BusRepresents}
-use Rattle.uxn_cli.proofs.Common.{FilesStay, IsFileWhereKnown, ScriptView, State, Trace, CountingLaw, DebugCommand, IsMachine, RunLaw, Task, DebugTask, RunTask}
-use Rattle.uxn_cli.proofs.Common.{outputs_of, root_of, HasApartOutputs, Halt, Refused, Stopped, world, result_blame}
-use Rattle.uxn_cli.proofs.Common.{Debugging, RunJob, RootView, root_view_in, first_devices, log_of, job_outputs, reference_trace, trace_of, state_shown, log_text}
-use Rattle.uxn_cli.proofs.Common.{log_texts, requested_output, creating_all, filling_all, reporting, running, TreeSuffices, SinksSuffice, Run, debugging}
-use Rattle.uxn_cli.proofs.Common.{HasUnknownContents, ListsFolder, MayStop, Performs, DoesWork, AreNew, IsPlanned, IsReadyRun, prepared_job, prepared_plan, Gives, inquiry_of, planned, HasNoRoot}
-use Rattle.uxn_cli.proofs.Common.{prepared_debugging, Made, HalfDone, MakesOutputs, model_of_program, stop_blame, IfSome_then, CutShort, arith, result_and, result_or}
-use Rattle.uxn_cli.proofs.Common.{Each, HostState, host_state, observed_outside, Exits, EndsBy, CountsRefusals, OnRefused}
+use Rattle.uxn_cli.proofs.Common.{bytes_eq-Decides, Failed, Label, with_appended, Nodes, Change, ToFile, World, changed_by, files_by, files-contents}
+use Rattle.uxn_cli.proofs.Common.{Done, Ended, blame_of_tree, ended-then, ended-first, outside-of-tree, ledger-then, Blame, Nobody, TheTree}
+use Rattle.uxn_cli.proofs.Common.{TreeState, SinkState, Outside, outside, Stop, TreeFault, SinkFault, NoMemory, BusRepresents, FilesStay}
+use Rattle.uxn_cli.proofs.Common.{IsFileWhereKnown, ScriptView, State, Trace, CountingLaw, DebugCommand, IsMachine, RunLaw, Task, DebugTask, RunTask}
+use Rattle.uxn_cli.proofs.Common.{outputs_of, root_of, HasApartOutputs, Halt, Stopped, world, result_blame, Debugging, RunJob, RootView, root_view_in}
+use Rattle.uxn_cli.proofs.Common.{first_devices, log_of, job_outputs, reference_trace, trace_of, state_shown, log_text, log_texts, requested_output}
+use Rattle.uxn_cli.proofs.Common.{creating_all, filling_all, reporting, running, Run, debugging, HasUnknownContents, MayStop, Performs, DoesWork}
+use Rattle.uxn_cli.proofs.Common.{AreNew, IsPlanned, IsReadyRun, Inquires, plan_of, prepared_job, prepared_plan, Gives, inquiry_of, planned}
+use Rattle.uxn_cli.proofs.Common.{HasNoRoot, prepared_debugging, Made, MakesOutputs, model_of_program, stop_blame, CutShort, arith, result_and}
+use Rattle.uxn_cli.proofs.Common.{result_or, list_any-append, HostState, host_state, observed_outside, CountsRefusals, common_steps}
 use Rattle.std.proofs.Math.Bool.{or-true}
 use Rattle.uxn_io_traits.specs.AppendingLaws.{changed_by-file}
 use Rattle.uxn_io_traits.specs.Ended.{RefusesNone, Refused as CreateRefused}
-use Rattle.uxn_io_traits.specs.Room.{Room}
-use Rattle.uxn_io_traits.specs.Taking.{TreeTakes}
-use Rattle.uxn_io_traits.specs.TakingLaws.{takes-first}
 use Rattle.uxn_opcodes.specs.Ports.{result_blame as blame_of_result}
 use Rattle.varvara_bus.specs.declared.bus.Bus.{Bus}
 use Rattle.varvara_bus.specs.declared.devices.Devices.{Devices}
@@ -29,16 +26,16 @@ use Rattle.uxn_debugger.specs.Watching.{Watching, new_watching, shown as shown_t
 use Rattle.uxn_cli.specs.declared.machine.Machine.{Machine}
 use Rattle.uxn_cli.specs.declared.running.RunEnd.{RunEnd}
 use Rattle.uxn_cli.specs.declared.playing.Prepared.{Prepared}
-use Rattle.uxn_cli.specs.RunsFromRoot.{AtRootView, RunFiles, RunsFromRoot, RunsOverOutside, WasShown, blame_if, task_settings, task_trace, logged_changes}
-use Rattle.std.specs.Prelude.{IfErr}
+use Rattle.uxn_cli.specs.RunsFromRoot.{AtRootView, RunFiles, RunsFromRoot, RunsOverOutside, WasShown, blame_if, task_settings, task_trace}
+use Rattle.uxn_cli.specs.RunsFromRoot.{logged_changes}
 use Rattle.uxn_arguments.specs.declared.task.Task.TheVariants as tasks
 use Rattle.uxn_cli.proofs.RegularLemmas.{is-regular}
 use Rattle.uxn_cli.proofs.RootLemmas.{outputs-outside, root_view-made, all-apart}
-use Rattle.uxn_cli.proofs.GuaranteedLemmas.{always}
+use Rattle.uxn_cli.proofs.CauseLemmas.{refuses-no-exit, refusal-not-early}
 use Rattle.uxn_cli.proofs.ChangeLemmas.{made-of-tree}
 use Rattle.uxn_cli.proofs.PlanLemmas.{plan-outputs, plan-accepted}
-use Rattle.uxn_cli.proofs.WorkLemmas.{halted-looked, does-all, does-prefix}
-use Rattle.uxn_cli.proofs.WriteLemmas.{does-refuse}
+use Rattle.uxn_cli.proofs.WorkLemmas.{does-all, does-prefix, accepted-after, does-behind}
+use Rattle.uxn_cli.proofs.WriteLemmas.{does-halt}
 use Rattle.uxn_cli.proofs.RefusalLemmas.{counts-run}
 use Rattle.uxn_task_files.proofs.DidLemmas.{refused-then}
 
@@ -47,7 +44,8 @@ use Rattle.uxn_task_files.proofs.DidLemmas.{refused-then}
 pub one-text : (path text : List ℕ) → filling_all (requested_output (Some path) text) ≡ map (λ byte. ToFile path byte) text
 one-text path text = append-nil (map (λ byte. ToFile path byte) text)
 
-pub stays-if : (root file : Option (List ℕ)) (before now : Option Nodes) → FilesStay root before now → IfSome file (IsOutput root before) → IfSome file (IsFileWhereKnown now)
+pub stays-if : (root file : Option (List ℕ)) (before now : Option Nodes) → FilesStay root before now → IfSome file (IsOutput root before)
+    → IfSome file (IsFileWhereKnown now)
 stays-if root None before now f there = tt
 stays-if root (Some path) before now f there = f.stays path there.outside there.file
 
@@ -57,14 +55,17 @@ shown-fold [] held = refl
 shown-fold (state ∷ states) held = shown-fold states (shown_to held (state_shown state))
 
 module _ (keeps : KeepsTheLog) (counting : CountingLaw) (in_row : RunLaw) (task : RunTask) (machine : Machine) (is : IsMachine machine.core) where
-  pub kept-log : (debug : DebugTask) (commands : List DebugCommand) (labels : List Label) (before now : Watching) → before ≡ new_watching commands labels → (root_view : RootView)
-      → WasShown after_moment after_end before (task_trace task machine root_view) now → now.log ≡ log_text (debugging debug commands labels) (task_trace task machine root_view)
+  pub kept-log : (debug : DebugTask) (commands : List DebugCommand) (labels : List Label) (before now : Watching)
+      → before ≡ new_watching commands labels → (root_view : RootView)
+      → WasShown after_moment after_end before (task_trace task machine root_view) now
+      → now.log ≡ log_text (debugging debug commands labels) (task_trace task machine root_view)
   unfolding log_text
   kept-log debug commands labels before now new root_view was =
       let trace = task_trace task machine root_view in
       ap (λ w. w.log) was ∙ ap (λ held. (ended_by (shown_all after_moment held trace.moments) (state_shown trace.last)).log) new
       ∙ ap (λ held. (ended_by held (state_shown trace.last)).log) (shown-fold trace.moments (new_watching commands labels))
-      ∙ keeps commands labels (map state_shown trace.moments) (state_shown trace.last) (is-regular counting in_row task.budget (task_settings task).outputs machine.script root_view machine.core is)
+      ∙ keeps commands labels (map state_shown trace.moments) (state_shown trace.last)
+      (is-regular counting in_row task.budget (task_settings task).outputs machine.script root_view machine.core is)
 
 -- ---- a run, and what is done behind it
 
@@ -78,7 +79,8 @@ texts-stay (Some path) text before now done root =
     rw files (appended-stays root before.world.files path text)
 
 -- the same of a root by another name
-pub runs-at : (root same : Option (List ℕ)) (trace : RootView → Trace) (changes : Trace → List Change) (watched : Type 0) (before now : Outside) (result : Result RunEnd Stop)
+pub runs-at : (root same : Option (List ℕ)) (trace : RootView → Trace) (changes : Trace → List Change) (watched : Type 0) (before now : Outside)
+    (result : Result RunEnd Stop)
     → root ≡ same → RunsFromRoot root trace changes watched before now result → RunsFromRoot same trace changes watched before now result
 runs-at root same trace changes watched before now result is runs = subst (λ r. RunsFromRoot r trace changes watched before now result) is runs
 
@@ -92,21 +94,10 @@ shown-then P (Err failed) end p = tt
 
 module _ (root : Option (List ℕ)) (trace : RootView → Trace) (first : Trace → List Change) (watched : Type 0) (before : Outside) where
   -- the same changes by another name, and a watcher that may want memory too
-  pub runs-as : (same : Trace → List Change) (wider : Type 0) (now : Outside) (result : Result RunEnd Stop) → ((t : Trace) → first t ≡ same t) → (watched → wider)
+  pub runs-as : (same : Trace → List Change) (wider : Type 0) (now : Outside) (result : Result RunEnd Stop) → ((t : Trace) → first t ≡ same t)
+      → (watched → wider)
       → RunsFromRoot root trace first watched before now result → RunsFromRoot root trace same wider before now result
-  runs-as same wider now result is widens runs = record {
-    from = λ root_view at files.
-        let run = runs.from root_view at files in
-        record { made = rw (← is (trace root_view)) run.made; ends = run.ends; names = wide _ result run.names };
-    ledger = runs.ledger;
-    memory = wide _ result runs.memory;
-    files = runs.files;
-    code = runs.code;
-  }
-    where
-      wide : (A : Type 0) (r : Result RunEnd Stop) → IfErr r (λ stop. stop ≡ NoMemory → watched ⊎ A) → IfErr r (λ stop. stop ≡ NoMemory → wider ⊎ A)
-      wide A (Ok end) left = tt
-      wide A (Err stop) left = λ wanted. elim (left wanted) [ inl there ↦ inl (widens there) | inr other ↦ inr other ]
+  runs-as = grind (arith, common_steps)
 
   -- it stopped, and nothing was done behind it
   pub runs-first : (more : Trace → List Change) (now : Outside) (stop : Stop) → RunsFromRoot root trace first watched before now (Err stop)
@@ -124,16 +115,19 @@ module _ (root : Option (List ℕ)) (trace : RootView → Trace) (first : Trace 
   }
 
   -- a text was written behind it, or the tree failed
-  pub runs-then : (file : Option (List ℕ)) (text : List ℕ) (last : Trace → List ℕ) (middle now : Outside) (end : RunEnd) → RunsFromRoot root trace first watched before middle (Ok end)
+  pub runs-then : (file : Option (List ℕ)) (text : List ℕ) (last : Trace → List ℕ) (middle now : Outside) (end : RunEnd)
+      → RunsFromRoot root trace first watched before middle (Ok end)
       → AtRootView root before.world.files (λ root_view. text ≡ last (trace root_view)) → (written : Result (Unit {0}) Failed)
       → Ended (filling_all (requested_output file text)) (blame_of_tree (is_err written)) middle now
       → RunsFromRoot root trace (λ t. first t ++ filling_all (requested_output file (last t))) watched before now (run_then written end)
   runs-then file text last middle now end runs same = go
     where
       both : (blame : Option Blame) → Ended (filling_all (requested_output file text)) blame middle now
-          → AtRootView root before.world.files (λ root_view. Ended (first (trace root_view) ++ filling_all (requested_output file (last (trace root_view)))) blame before now)
+          → AtRootView root before.world.files
+          (λ root_view. Ended (first (trace root_view) ++ filling_all (requested_output file (last (trace root_view)))) blame before now)
       both blame ended root_view at files =
-          ended-then (first (trace root_view)) (filling_all (requested_output file (last (trace root_view)))) blame before middle now (runs.from root_view at files).made
+          ended-then (first (trace root_view)) (filling_all (requested_output file (last (trace root_view)))) blame before middle now
+          (runs.from root_view at files).made
           (subst (λ t. Ended (filling_all (requested_output file t)) blame middle now) (same root_view at files) ended)
 
       go : (written : Result (Unit {0}) Failed) → Ended (filling_all (requested_output file text)) (blame_of_tree (is_err written)) middle now
@@ -142,7 +136,10 @@ module _ (root : Option (List ℕ)) (trace : RootView → Trace) (first : Trace 
         from = λ root_view at files. record { made = both None ended root_view at files; ends = (runs.from root_view at files).ends; names = tt };
         ledger = ledger-then before.faults middle.faults now.faults Nobody runs.ledger ended.ledger;
         memory = tt;
-        files = record { stays = λ path outside there. (texts-stay file text middle now ended root).stays path outside (runs.files.stays path outside there) };
+        files = record {
+          stays = λ path outside there. (texts-stay file text middle now ended root).stays path outside
+              (runs.files.stays path outside there);
+        };
         code = runs.code;
       }
       go (Err failed) ended = record {
@@ -155,26 +152,10 @@ module _ (root : Option (List ℕ)) (trace : RootView → Trace) (first : Trace 
 
 -- ---- the files that a run writes
 
--- what holds of each path that is among some
-module _ (P : List ℕ → Type 0) where
-  each-among : (paths : List (List ℕ)) → ((path : List ℕ) → list_any (bytes_eq path) paths ≡ true → P path) → Each P paths
-  each-among [] all = tt
-  each-among (path ∷ paths) all = (
-    all path (ap (λ b. b || list_any (bytes_eq path) paths) ((bytes_eq-Decides path path).1 refl)),
-    each-among paths (λ other among. all other (ap (λ b. bytes_eq other path || b) among ∙ or-true (bytes_eq other path))),
-  )
-
-  each-parts : (first last : List (List ℕ)) → Each P (first ++ last) → Each P first × Each P last
-  each-parts [] last each = (tt, each)
-  each-parts (path ∷ first) last each = let rest = each-parts first last each.1 in ((each.0, rest.0), rest.1)
-
-  one-of : (file : Option (List ℕ)) → Each P (option_to_list file) → IfSome file P
-  one-of None each = tt
-  one-of (Some path) each = each.0
-
-  log-one : (debug : Option Debugging) → IfSome (log_of (option_map (λ debugging. debugging.task) debug)) P → IfSome debug (λ d. P d.task.log)
-  log-one None holds = tt
-  log-one (Some d) holds = holds
+log-one : (P : List ℕ → Type 0) (debug : Option Debugging) → IfSome (log_of (option_map (λ debugging. debugging.task) debug)) P
+    → IfSome debug (λ d. P d.task.log)
+log-one P None holds = tt
+log-one P (Some d) holds = holds
 
 -- how a task ended whose run did
 abbrev pub answered : Result RunEnd Stop → Result ℕ Halt
@@ -186,91 +167,55 @@ same-blame result = grind arith
 
 -- ---- what a run does to the outside
 
-module _ (task : Task) (start : TreeState) (job : RunJob) (included : List (List ℕ)) (plan : IsPlanned start.contents task (planned (Run job) included)) where
-  abbrev rest : Option Nodes → List Change
-  rest files = reporting job.task.report job.script.version (trace_of files job) ++ filling_all (log_texts job.debug (trace_of files job))
+-- the outputs were not made
+pub does-unmade : (task : Task) (start : TreeState) (job : RunJob) (included : List (List ℕ))
+    → IsPlanned start.contents task (planned (Run job) included)
+    → (now : TreeState) (out err : SinkState) (halt : Halt) → MakesOutputs included (outputs_of task) start now (Err halt)
+    → DoesWork (Ok task) (host_state start out err) (host_state now out err) (Err halt)
+unfolding running
+does-unmade task start job included plan now out err halt ends =
+    let trace = trace_of start.contents job in
+    let rest = reporting job.task.report job.script.version trace ++ filling_all (log_texts job.debug trace) in
+    does-halt task start now out err _ plan (creating_all (outputs_of task)) rest (made-of-tree (outputs_of task))
+    (ap (λ paths. creating_all paths ++ rest) (sym (plan-outputs start.contents task _ plan))) (λ left. tt) halt ends
 
-  half-made : (now : TreeState) (out err : SinkState) → HalfDone included (outputs_of task) (creating_all (outputs_of task)) start now
-      → DoesWork (Ok task) (host_state start out err) (host_state now out err) (Err (Stopped TreeFault))
-  unfolding running
-  half-made now out err half =
-      let outputs = plan-outputs start.contents task _ plan in
-      let short = outside-of-tree (creating_all (outputs_of task)) true start now out err (made-of-tree (outputs_of task)) half.did in
-      does-prefix (Ok task) _ _ (Ok (Run job)) (plan-accepted start.contents task _ plan half.free) TreeFault tt
-      (record { cut = cut-first _ _ (creating_all (job_outputs job)) (rest start.contents) (rw outputs at short.cut); short = λ text. absurd text }) short.ledger
-      (IfSome_then start.contents short.not_guaranteed (λ nodes not suffices is. not (rw outputs (takes-first start.guaranteed nodes (creating_all (job_outputs job)) (rest (Some nodes)) suffices))))
-      (λ s e. cc e) (λ any. inl half.refusals)
-
-  -- the outputs were not made
-  pub does-unmade : (now : TreeState) (out err : SinkState) (halt : Halt) → MakesOutputs included (outputs_of task) start now (Err halt)
-      → DoesWork (Ok task) (host_state start out err) (host_state now out err) (Err halt)
-  does-unmade now out err (Refused refusal) refuses = does-refuse task start _ plan now out err refusal refuses
-  does-unmade now out err (Stopped NoMemory) looked =
-      halted-looked (Ok task) start now out err (Stopped NoMemory) (inr (ap (λ t. world t out.contents err.contents) looked.contents)) (λ is. cc is) looked
-  does-unmade now out err (Stopped TreeFault) (inl looked) =
-      halted-looked (Ok task) start now out err (Stopped TreeFault) (inr (ap (λ t. world t out.contents err.contents) looked.contents)) (λ is. cc is) looked
-  does-unmade now out err (Stopped TreeFault) (inr half) = half-made now out err half
-  does-unmade now out err (Stopped SinkFault) none = absurd none
-
-may-stop : (files : Option Nodes) (job : RunJob) (stop : Stop) → (stop ≡ NoMemory → IsSome job.debug ⊎ ListsFolder files job) → MayStop files (Ok (Run job)) stop
-may-stop files job TreeFault memory = tt
-may-stop files job SinkFault memory = tt
-may-stop files job NoMemory memory = memory refl
-
--- whoever is to blame did not suffice
-spared-known : (files : Option Nodes) (room : Room) (changes : Option Nodes → List Change) → IfSome files (λ nodes. TreeTakes room nodes (changes files) → ⊥)
-    → IfSome files (λ nodes. TreeTakes room nodes (changes (Some nodes)) → ⊥)
-spared-known None room changes not = tt
-spared-known (Some nodes) room changes not = not
-
-tree-spared : (job : RunJob) (stop : Stop) (before now : Outside) → CutShort (running before.world.files job) (stop_blame stop) before now
-    → IfSome before.world.files (λ nodes. TreeSuffices (Ok (Run job)) before.guaranteed.tree nodes → stop_blame stop ≡ TheTree → ⊥)
-tree-spared job TreeFault before now short =
-    IfSome_then before.world.files (spared-known before.world.files before.guaranteed.tree (λ files. running files job) short.not_guaranteed) (λ nodes not suffices e. not suffices)
-tree-spared job SinkFault before now short = always before.world.files _ _ (λ e. cc e)
-tree-spared job NoMemory before now short = always before.world.files _ _ (λ e. cc e)
-
-sinks-spared : (job : RunJob) (stop : Stop) (before now : Outside) → CutShort (running before.world.files job) (stop_blame stop) before now
-    → SinksSuffice before.world.files (Ok (Run job)) before.guaranteed.out before.guaranteed.err → stop_blame stop ≡ ASink → ⊥
-sinks-spared job TreeFault before now short suffices e = cc e
-sinks-spared job SinkFault before now short suffices e = short.not_guaranteed suffices.0 suffices.1
-sinks-spared job NoMemory before now short suffices e = cc e
+-- a run may stop: memory runs out to the debugger, or where there is a root and the run takes the names of a folder beneath it
+may-stop : (files : Option Nodes) (job : RunJob) (stop : Stop) (left : List Change) → (stop ≡ NoMemory → IsSome job.debug ⊎ IsSome job.task.root)
+    → (stop ≡ NoMemory → IsSome job.debug ⊎ TraceTakesNames (trace_of files job)) → MayStop files (Ok (Run job)) stop left
+may-stop files job TreeFault left memory names = tt
+may-stop files job SinkFault left memory names = tt
+may-stop files job NoMemory left memory names = grind (arith, common_steps)
 
 -- a bus over new devices and a tree represents the start of a run
-pub at-start : {T O E : Type 0} (contents_of_tree : T → Option Nodes) (bus : Bus T O E) (devices : Devices) (tree : T) (script : ScriptView) (root_view : RootView)
+pub at-start : {T O E : Type 0} (contents_of_tree : T → Option Nodes) (bus : Bus T O E) (devices : Devices) (tree : T) (script : ScriptView)
+    (root_view : RootView)
     → bus.devices.now ≡ devices → bus.tree.now ≡ tree → root_view.root ≡ devices.root → AreNew devices script devices.root
-    → HasFiles (contents_of_tree tree) root_view.root root_view.part root_view.parent → BusRepresents contents_of_tree bus (first_devices script root_view)
+    → HasFiles (contents_of_tree tree) root_view.root root_view.part root_view.parent
+    → BusRepresents contents_of_tree bus (first_devices script root_view)
 at-start contents_of_tree bus devices tree script root_view held borrowed root new files = record {
   devices = rw (held, root) (new root_view.part root_view.parent);
   files = rw borrowed files;
 }
 
--- memory ran out to the debugger, or where there is a root and a run beneath it takes the names of a folder
-lists : (files : Option Nodes) (job : RunJob) → IsSome job.debug ⊎ IsSome job.task.root → IsSome job.debug ⊎ TraceTakesNames (trace_of files job) → IsSome job.debug ⊎ ListsFolder files job
-lists files job (inl watched) takes = inl watched
-lists files job (inr root) (inl watched) = inl watched
-lists files job (inr root) (inr takes) = inr (record { root = root; takes = takes })
-
 -- the folder of a program's own files once the outputs were made
 root_view-files : (tree made : Option Nodes) (task : Task) (out err : Option (List ℕ)) → HasApartOutputs task
     → world made out err ≡ changed_by (world tree out err) (creating_all (outputs_of task))
-    → HasFiles made (root_of task) (root_view_in tree (root_of task)).part (root_view_in tree (root_of task)).parent ⊎ ((tree ≡ None) × IsSome (root_of task))
-root_view-files None made task out err apart is =
-    let gone : made ≡ None = ap (λ w. w.files) is ∙ files-contents (world None out err) (creating_all (outputs_of task)) in go (root_of task) gone
-  where
-    go : (root : Option (List ℕ)) → made ≡ None → HasFiles made root (root_view_in None root).part (root_view_in None root).parent ⊎ ((◌≡◌ {A = Option Nodes} None None) × IsSome root)
-    go None gone = inl (rw gone (refl, refl, refl))
-    go (Some root) gone = inr (refl, refl)
+    → HasFiles made (root_of task) (root_view_in tree (root_of task)).part
+    (root_view_in tree (root_of task)).parent ⊎ ((tree ≡ None) × IsSome (root_of task))
+root_view-files None made task out err apart is = grind (arith, common_steps, files-contents)
 root_view-files (Some nodes) made task out err apart is =
     let root = root_of task in
-    let now : made ≡ Some (files_by nodes (creating_all (outputs_of task))) = ap (λ w. w.files) is ∙ files-contents (world (Some nodes) out err) (creating_all (outputs_of task)) in
-    let kept : root_view_in (Some (files_by nodes (creating_all (outputs_of task)))) root ≡ root_view_in (Some nodes) root = root_view-made root (outputs_of task) nodes (all-apart task apart) in
+    let now : made ≡ Some (files_by nodes (creating_all (outputs_of task))) = ap (λ w. w.files) is
+    ∙ files-contents (world (Some nodes) out err) (creating_all (outputs_of task)) in
+    let kept : root_view_in (Some (files_by nodes (creating_all (outputs_of task)))) root ≡ root_view_in (Some nodes) root =
+    root_view-made root (outputs_of task) nodes (all-apart task apart) in
     inl (rw now (sym (ap (λ h. h.part) kept), sym (ap (λ h. h.parent) kept)))
 
 -- a machine that is ready runs the trace of its job
-module _ (run : RunTask) (asked : Option DebugTask) (start made : TreeState) (prepared : Prepared)
-    (plan : IsPlanned start.contents (tasks.Run run asked) (prepared_plan run prepared)) (of : IsReadyRun run asked prepared)
-    (apart : HasApartOutputs (tasks.Run run asked)) (makes : Made (model_of_program prepared.program).included (outputs_of (tasks.Run run asked)) start made) where
+module _ (run : RunTask) (asked : Option DebugTask) (before start made : TreeState) (prepared : Prepared)
+    (asks : Inquires (prepared_plan run) (plan_of (tasks.Run run asked)) before start (Ok prepared)) (of : IsReadyRun run asked prepared)
+    (apart : HasApartOutputs (tasks.Run run asked))
+    (makes : Made (model_of_program prepared.program).included (outputs_of (tasks.Run run asked)) start made) where
   abbrev task : Task
   task = tasks.Run run asked
 
@@ -282,6 +227,9 @@ module _ (run : RunTask) (asked : Option DebugTask) (start made : TreeState) (pr
 
   abbrev ready_view : RootView
   ready_view = root_view_in start.contents run.root
+
+  plan : IsPlanned start.contents task (prepared_plan run prepared)
+  plan = accepted-after (prepared_plan run) task before start prepared asks
 
   outputs : outputs_of task ≡ job_outputs ready_job
   outputs = plan-outputs start.contents task _ plan
@@ -297,27 +245,17 @@ module _ (run : RunTask) (asked : Option DebugTask) (start made : TreeState) (pr
       let here : list_any (bytes_eq path) (outputs_of task) ≡ true = rw outputs among in
       record { file = makes.files path here; outside = outputs-outside task path apart here }
 
-  abbrev log : Option (List ℕ)
-  log = log_of (option_map (λ debugging. debugging.task) debug)
-
-  reports : Each IsReadyOutput (option_to_list log ++ option_to_list run.frames ++ option_to_list run.samples) × Each IsReadyOutput (option_to_list run.report)
-  reports = each-parts IsReadyOutput _ (option_to_list run.report) (each-among _ (job_outputs ready_job) output-at)
-
-  samples : Each IsReadyOutput (option_to_list log ++ option_to_list run.frames) × Each IsReadyOutput (option_to_list run.samples)
-  samples = each-parts IsReadyOutput _ (option_to_list run.samples) reports.0
-
-  frames : Each IsReadyOutput (option_to_list log) × Each IsReadyOutput (option_to_list run.frames)
-  frames = each-parts IsReadyOutput _ (option_to_list run.frames) samples.0
+  one-of : (file : Option (List ℕ)) → ((path : List ℕ) → list_any (bytes_eq path) (option_to_list file) ≡ true
+      → list_any (bytes_eq path) (job_outputs ready_job) ≡ true) → IfSome file IsReadyOutput
+  one-of None all = tt
+  one-of (Some path) all = output-at path (all path (ap (λ b. b || false) ((bytes_eq-Decides path path).1 refl)))
 
   pub ready-log : IfSome debug (λ d. IsOutput run.root made.contents d.task.log)
-  ready-log = log-one IsReadyOutput debug (one-of IsReadyOutput log frames.0)
+  ready-log = log-one IsReadyOutput debug (one-of (log_of (option_map (λ debugging. debugging.task) debug))
+      (λ path among. simp (list_any-append, among)))
 
   pub ready-files : RunFiles run made.contents
-  ready-files = record {
-    frames = one-of IsReadyOutput run.frames frames.1;
-    samples = one-of IsReadyOutput run.samples samples.1;
-    report = one-of IsReadyOutput run.report reports.1;
-  }
+  ready-files = grind (arith, common_steps, one-of, list_any-append, or-true)
 
   -- the run, behind outputs that were made
   module _ (out err : SinkState) (now : HostState) (refuses : run.root ≡ None → RefusesNone made now.tree) where
@@ -331,52 +269,50 @@ module _ (run : RunTask) (asked : Option DebugTask) (start made : TreeState) (pr
     given = plan-accepted start.contents task _ plan makes.free
 
     abbrev Went : Result RunEnd Stop → Type 0
-    Went result = RunsFromRoot run.root (task_trace run prepared.machine) (logged_changes run prepared.machine debug) (IsSome debug) (outside made out err) (observed_outside now) result
+    Went result = RunsFromRoot run.root (task_trace run prepared.machine) (logged_changes run prepared.machine debug) (IsSome debug)
+        (outside made out err) (observed_outside now) result
 
     abbrev Ran : Result RunEnd Stop → Type 0
-    Ran result = RunsOverOutside (trace_of start.contents ready_job) (logged_changes run prepared.machine debug (trace_of start.contents ready_job)) (IsSome debug) (outside made out err) (observed_outside now) result
+    Ran result = RunsOverOutside (trace_of start.contents ready_job) (logged_changes run prepared.machine debug (trace_of start.contents ready_job))
+        (IsSome debug) (outside made out err) (observed_outside now) result
 
     -- all of it, with the outputs
-    all : (result : Result RunEnd Stop) → Ran result → Ended (running start.contents ready_job) (blame_if result) (outside start out err) (observed_outside now)
+    all : (result : Result RunEnd Stop) → Ran result
+        → Ended (running start.contents ready_job) (blame_if result) (outside start out err) (observed_outside now)
     unfolding running
     all result ran =
-        rw outputs at (ended-then (creating_all (outputs_of task)) (logged_changes run prepared.machine debug (trace_of start.contents ready_job)) (blame_if result)
+        rw outputs at (ended-then (creating_all (outputs_of task)) (logged_changes run prepared.machine debug (trace_of start.contents ready_job))
+        (blame_if result)
         (outside start out err) (outside made out err) (observed_outside now) begun ran.made)
 
     none-refused : HasNoRoot (Ok task) → CreateRefused None start now.tree
     none-refused none = refused-then None start made now.tree makes.refusals makes.did.counted.promise (refuses none).none
 
     passes : (result : Result RunEnd Stop) → Went result → CountsRefusals (Ok task) start now.tree err now.err (answered result)
-    passes (Ok end) runs = counts-run (Ok task) start now.tree err now.err (Exits end.exit) runs.code (λ reason no. cc) none-refused
-    passes (Err stop) runs = counts-run (Ok task) start now.tree err now.err (EndsBy stop) tt (λ reason no. cc) none-refused
+    passes (Ok end) runs = grind (arith, common_steps, counts-run, refuses-no-exit, none-refused)
+    passes (Err stop) runs = grind (arith, common_steps, counts-run, refusal-not-early, none-refused)
 
     -- where a tree tells what lies beneath the root
     does-contents : (result : Result RunEnd Stop) → Went result → Ran result → DoesWork (Ok task) (host_state start out err) now (answered result)
     does-contents (Ok end) runs ran =
         let done = all (Ok end) ran in
-        does-all (Ok task) (host_state start out err) now _ given end.exit (ap (λ (e : RunEnd). e.exit) ran.ends) done.world done.ledger (passes (Ok end) runs)
+        does-all (Ok task) (host_state start out err) now _ given end.exit (ap (λ (e : RunEnd). e.exit) ran.ends) done.world done.ledger
+        (passes (Ok end) runs)
     does-contents (Err stop) runs ran =
-        let short : CutShort (running start.contents ready_job) (stop_blame stop) (outside start out err) (observed_outside now) = rw (same-blame (Err stop)) at (all (Err stop) ran) in
-        does-prefix (Ok task) (host_state start out err) now _ given stop (may-stop start.contents ready_job stop (λ wanted. lists start.contents ready_job (runs.memory wanted) (ran.names wanted)))
-        (record { cut = short.cut; short = λ text. absurd text }) short.ledger (tree-spared ready_job stop _ _ short) (sinks-spared ready_job stop _ _ short)
+        let short : CutShort (running start.contents ready_job) (stop_blame stop) (outside start out err) (observed_outside now) =
+        rw (same-blame (Err stop)) at (all (Err stop) ran) in
+        does-prefix (Ok task) (host_state start out err) now _ given stop short
+        (may-stop start.contents ready_job stop short.cut.rest runs.memory ran.names)
         (passes (Err stop) runs)
 
     -- where its contents are unknown
-    performs : HasUnknownContents start.contents (Ok (Run ready_job)) → (result : Result RunEnd Stop) → Went result → Performs (Ok task) (world start.contents out.contents err.contents) (observed_outside now).world (answered result)
+    performs : HasUnknownContents start.contents (Ok (Run ready_job)) → (result : Result RunEnd Stop) → Went result
+        → Performs (Ok task) (world start.contents out.contents err.contents) (observed_outside now).world (answered result)
     performs unknown (Ok end) runs = inl (record { found = Ok (Run ready_job); given = given; has = inr (unknown, runs.code) })
     performs unknown (Err stop) runs = inl (record { found = Ok (Run ready_job); given = given; has = inr (unknown, tt) })
 
-    pub does-run : (result : Result RunEnd Stop) → Went result → DoesWork (Ok task) (host_state start out err) now (answered result)
-    does-run result runs = elim root_view [
-      | inl files ↦ does-contents result runs
-          (subst (λ t. RunsOverOutside t (logged_changes run prepared.machine debug t) (IsSome debug) (outside made out err) (observed_outside now) result) ready-trace
-          (runs.from ready_view refl files))
-      | inr none ↦ record {
-        performs = performs (rw none.0 none.1) result runs;
-        ledger = ledger-then _ _ _ _ begun.ledger (rw (← same-blame result) runs.ledger);
-        guaranteed_tree = rw none.0 tt;
-        guaranteed_sinks = rw none.0 tt;
-        refusals = passes result runs;
-        kept = elim result as (λ r. OnRefused (answered r) (now.err ≡ err)) [ Ok end ↦ tt | Err stop ↦ tt ];
-      }
-    ]
+    does-ready : (result : Result RunEnd Stop) → Went result → DoesWork (Ok task) (host_state start out err) now (answered result)
+    does-ready = grind (arith, common_steps, root_view, does-contents, ready-trace, performs, ledger-then, begun, same-blame, passes)
+
+    pub does-run : (result : Result RunEnd Stop) → Went result → DoesWork (Ok task) (host_state before out err) now (answered result)
+    does-run result runs = does-behind (prepared_plan run) task before start out err now (answered result) prepared asks (does-ready result runs)

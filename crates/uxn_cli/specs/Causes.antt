@@ -1,4 +1,4 @@
--- When each status is answered.
+-- When each status is given, and what stays as it was.
 use Rattle.std.specs.Prelude.{◌≡◌, ℕ, List, [], ◌∷◌, ◌++◌, Option, Some, Result, Ok, ◌⊎◌}
 use Rattle.std.specs.Prelude.{false, IfOk, IfSome}
 use Rattle.std.specs.List.{list_any}
@@ -12,13 +12,13 @@ use Rattle.uxn_task_files.specs.declared.refusal.Refusal.{Refusal}
 use Rattle.uxn_inquiry.specs.Inquiry.{answer_in}
 use Rattle.uxn_cli.specs.Verdict.{Work, inquiry_of}
 use Rattle.uxn_arguments.specs.Options.{outputs_of, root_of}
-use Rattle.uxn_task_files.specs.Statuses.{Status, number, IsEarly}
+use Rattle.uxn_task_files.specs.Statuses.{IsEarly}
 use Rattle.uxn_cli.specs.Outcome.{outcome_of}
 
 -- the answer is this status exactly where the fact holds, unless the call ended early
-pub record IsExactly (answer : ℕ) (status : Status) (P : Type 0) : Type 0 where
-  pub only : answer ≡ number status → P
-  pub whenever : P → (answer ≡ number status) ⊎ IsEarly answer
+pub record IsExactly (answer status : ℕ) (P : Type 0) : Type 0 where
+  pub only : answer ≡ status → P
+  pub whenever : P → (answer ≡ status) ⊎ IsEarly answer
 
 -- the verdict on words and on what stands in a tree
 abbrev pub tree_verdict : Nodes → Result Task Refusal → Result Work Refusal
@@ -27,6 +27,10 @@ tree_verdict nodes requested = answer_in nodes (inquiry_of requested)
 -- what is accepted ends with this exit code
 abbrev pub EndsWith : Option Nodes → ℕ → Result Work Refusal → Type 0
 EndsWith files code verdict = (work : Work) × (verdict ≡ Ok work) × ((outcome_of files (Ok work)).status ≡ code)
+
+-- a line and nothing else was put
+abbrev pub PutsLine : Option (List ℕ) → Option (List ℕ) → Type 0
+PutsLine before now = (text : List ℕ) × (now ≡ extended before (text ++ 10 ∷ []))
 
 -- the path is no file that the task writes, and lies outside its root
 pub record IsAside (task : Task) (path : List ℕ) : Type 0 where

@@ -3,19 +3,17 @@ use Rattle.std.specs.Prelude.{◌≡◌, ℕ, Bool, [], Result, IfOk, is_err}
 use Rattle.uxn_io_traits.specs.Ended.{SinkEnded}
 use Rattle.uxn_io_traits.specs.State.{SinkState}
 use Rattle.uxn_io_traits.specs.declared.sinks.Failed.{Failed}
-use Rattle.play_script.specs.Held.{bytes_in}
 use Rattle.uxn_line.specs.declared.line.Line.{Line}
 use Rattle.uxn_line.specs.Moves.{IsUnderWay, StaysUnderWay}
 use Rattle.uxn_line.specs.Streams.{LineJob, AreOfConsole}
 use Rattle.uxn_task_files.specs.declared.machines.LineInputs.{LineInputs}
-use Rattle.uxn_task_files.specs.Held.{AreMachines}
-use Rattle.uxn_cli.specs.Console.{line_job}
-use Rattle.uxn_cli.specs.Verdict.{RunLine, Plan, planned}
+use Rattle.uxn_task_files.specs.Held.{AreMachines, model_of_machines}
+use Rattle.uxn_cli.specs.Verdict.{RunLine, Plan, planned, line_job}
 use Rattle.uxn_cli.specs.Outcome.{line_bytes, line_exit}
 
 -- the line that was joined
 abbrev pub job_of_joined : LineInputs → LineJob
-job_of_joined joined = line_job joined.setup (bytes_in joined.roms.items) joined.script
+job_of_joined joined = line_job (model_of_machines joined)
 
 abbrev pub joined_plan : LineInputs → Plan
 joined_plan joined = planned (RunLine (job_of_joined joined)) []

@@ -1,8 +1,6 @@
-pub mod Console
 pub mod Verdict
 pub mod RunJob
 pub mod Outcome
-pub mod Room
 pub mod RunsFromRoot
 pub mod Joined
 pub mod Prepared

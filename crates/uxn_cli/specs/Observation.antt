@@ -1,10 +1,8 @@
 -- A debugger changes nothing of a run but for its log: the log is made first and gets its bytes last, and all else is the run's.
-use Rattle.std.specs.Prelude.{◌≡◌, ℕ, false, List, ◌∷◌, ◌++◌, Option, Some, None, option_map, Result, Ok, IfSome, ◌⊎◌}
+use Rattle.std.specs.Prelude.{◌≡◌, ℕ, false, List, ◌∷◌, ◌++◌, Option, Some, None, Result, Ok}
 use Rattle.std.specs.Str.{bytes_eq}
-use Rattle.file_ports.specs.RootPart.{below}
 use Rattle.uxn_io_traits.specs.Files.{Nodes}
 use Rattle.uxn_io_traits.specs.Outside.{Change, Creates, World, changed_by}
-use Rattle.varvara_bus.specs.Touching.{contents_at}
 use Rattle.uxn_arguments.specs.Words.{task_of}
 use Rattle.uxn_arguments.specs.declared.task.DebugTask.{DebugTask}
 use Rattle.uxn_arguments.specs.declared.task.RunTask.{RunTask}
@@ -12,12 +10,10 @@ use Rattle.uxn_arguments.specs.declared.task.Task.TheVariants as tasks
 use Rattle.uxn_task_files.specs.declared.refusal.Refusal.{Refusal}
 use Rattle.uxn_task_files.specs.Request.{request}
 use Rattle.uxn_task_files.specs.Writing.{filling_all}
-use Rattle.uxn_cli.specs.RunJob.{Debugging, RunJob, trace_of, exit_of, log_texts}
+use Rattle.uxn_cli.specs.RunJob.{Debugging, RunJob, trace_of, log_texts}
 use Rattle.uxn_cli.specs.Verdict.{Work, Run}
-use Rattle.uxn_cli.specs.Outcome.{Outcome, outcome_of, running, ShowsOutcome}
+use Rattle.uxn_cli.specs.Outcome.{outcome_of, running, GivesOutcome}
 use Rattle.uxn_cli.specs.Causes.{tree_verdict}
-use Rattle.uxn_cli.specs.Call.{Call, call_request}
-use Rattle.uxn_task_files.specs.Statuses.{IsEarly}
 
 -- a run that nobody watches, and the same run under a debugger
 abbrev pub unwatched : RunJob → RunJob
@@ -32,8 +28,10 @@ with_log files job debugging =
     Creates debugging.task.log ∷ (running files (unwatched job) ++ filling_all (log_texts (Some debugging) (trace_of files job)))
 
 pub record OnlyWatches : Type 0 where
-  pub status : (files : Option Nodes) (job : RunJob) (debugging : Debugging) → exit_of files (watched job debugging) ≡ exit_of files (unwatched job)
-  pub changes : (files : Option Nodes) (job : RunJob) (debugging : Debugging) → running files (watched job debugging) ≡ with_log files job debugging
+  pub status : (files : Option Nodes) (job : RunJob) (debugging : Debugging)
+      → (outcome_of files (Ok (Run (watched job debugging)))).status ≡ (outcome_of files (Ok (Run (unwatched job)))).status
+  pub changes : (files : Option Nodes) (job : RunJob) (debugging : Debugging)
+      → running files (watched job debugging) ≡ with_log files job debugging
 
 -- words of `debug`, and words of `play` with the same items but the commands, the log and the symbols
 pub record HaveSameItems (words others : List (List ℕ)) : Type 0 where
@@ -49,21 +47,9 @@ pub record ComeToOneRun (debugged played : Result Work Refusal) : Type 0 where
   pub debugs : debugged ≡ Ok (Run (watched job debugging))
   pub plays : played ≡ Ok (Run (unwatched job))
 
--- a status and a world are those of an outcome, but for the log
-pub record IsOutcomeButLog (run : RunTask) (debug : DebugTask) (o : Outcome) (before now : World) (answer : ℕ) : Type 0 where
-  pub shows : ShowsOutcome o before now answer
-  pub files : (path : List ℕ) → bytes_eq path debug.log ≡ false → contents_at path now.files ≡ contents_at path (changed_by before o.changes).files
-  pub part : option_map (below run.root) now.files ≡ option_map (below run.root) (changed_by before o.changes).files
-
--- where `debug` comes to its run, it gives what `play` gives with the same items, but for the log
+-- where a `debug` is accepted, it gives what `play` gives with the same items, but for the log
 pub record ShowsWhatPlayDoes (nodes : Nodes) (words others : List (List ℕ)) (items : HaveSameItems words others) (work : Work) : Type 0 where
   pub run : ComeToOneRun (Ok work) (tree_verdict nodes (request others))
-  pub given : (before : World) → IsOutcomeButLog items.run items.debug (outcome_of (Some nodes) (tree_verdict nodes (request others))) before
+  pub given : (before : World) → GivesOutcome (outcome_of (Some nodes) (tree_verdict nodes (request others))) before
+      items.run.root (λ path. bytes_eq path items.debug.log ≡ false)
       (changed_by before (outcome_of (Some nodes) (Ok work)).changes) (outcome_of (Some nodes) (Ok work)).status
-
--- a call of `debug` that comes to its run gives what `play` gives with the same items, but for the log
-abbrev pub GivesWhatPlayGives : Call → Type 0
-GivesWhatPlayGives c = IfSome c.before.world.files (λ nodes. (others : List (List ℕ)) (work : Work) (items : HaveSameItems c.words others)
-    → tree_verdict nodes (call_request c) ≡ Ok work
-    → IsEarly c.status
-    ⊎ IsOutcomeButLog items.run items.debug (outcome_of (Some nodes) (tree_verdict nodes (request others))) c.before.world c.now.world c.status)

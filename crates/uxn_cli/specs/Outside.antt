@@ -1,7 +1,8 @@
 -- What is outside, as a host borrows it, and what the work of a task does to it.
 use Rattle.std.specs.Prelude.{◌≡◌, ℕ, Result, IfSome}
-use Rattle.uxn_io_traits.specs.Faults.{Ledger, TheTree, ASink}
+use Rattle.uxn_io_traits.specs.Faults.{Ledger}
 use Rattle.uxn_io_traits.specs.State.{TreeState, SinkState, Outside, outside}
+use Rattle.uxn_io_traits.specs.Taking.{WasNotGuaranteed}
 use Rattle.uxn_io_traits.specs.declared.sinks.Sink as sinks
 use Rattle.uxn_io_traits.specs.declared.trees.Tree as trees
 use Rattle.uxn_arguments.specs.declared.task.Task.{Task}
@@ -11,7 +12,7 @@ use Rattle.uxn_cli.specs.Answer.{Performs}
 use Rattle.uxn_task_files.specs.Blame.{OnRefused, result_blame}
 use Rattle.uxn_cli.specs.Causes.{tree_verdict}
 use Rattle.uxn_cli.specs.Refused.{CountsRefusals}
-use Rattle.uxn_cli.specs.Room.{TreeSuffices, SinksSuffice}
+use Rattle.uxn_cli.specs.Outcome.{outcome_of}
 use Rattle.uxn_cli.specs.declared.host.Host.{Host}
 
 -- what contracts see of a host: of its tree and of its two sinks
@@ -45,9 +46,7 @@ pub record SameHost {T O E : Type 0} (before now : Host T O E) : Type 0 where
 pub record DoesWork (requested : Result Task Refusal) (before now : HostState) (result : Result ℕ Halt) : Type 0 where
   pub performs : Performs requested (observed_outside before).world (observed_outside now).world result
   pub ledger : Ledger (observed_outside before).faults (observed_outside now).faults (result_blame result)
-  pub guaranteed_tree : IfSome before.tree.contents (λ nodes. TreeSuffices (tree_verdict nodes requested) before.tree.guaranteed nodes
-      → result_blame result ≡ TheTree → ⊥)
-  pub guaranteed_sinks : IfSome before.tree.contents (λ nodes. SinksSuffice before.tree.contents (tree_verdict nodes requested) before.out.guaranteed before.err.guaranteed
-      → result_blame result ≡ ASink → ⊥)
+  pub guaranteed : IfSome before.tree.contents (λ nodes. WasNotGuaranteed (result_blame result) (observed_outside before).guaranteed
+      before.tree.contents (outcome_of before.tree.contents (tree_verdict nodes requested)).changes)
   pub refusals : CountsRefusals requested before.tree now.tree before.err now.err result
   pub kept : OnRefused result (now.err ≡ before.err)

@@ -1,5 +1,6 @@
 -- What the code holds once the inputs of a task are accepted, as its plan; and what a run has before it begins.
 use Rattle.std.specs.Prelude.{◌≡◌, ℕ, Bool, List, [], Option, option_map, Ok, IfSome}
+use Rattle.std.specs.Global.{Vec}
 use Rattle.uxn_inquiry.specs.Gives.{Gives}
 use Rattle.uxn_io_traits.specs.Files.{Nodes}
 use Rattle.uxn_opcodes.specs.Rule.{new_core}
@@ -17,7 +18,11 @@ use Rattle.uxn_line.specs.Streams.{clock_by}
 use Rattle.uxn_cli.specs.declared.playing.Prepared.{Prepared}
 use Rattle.uxn_cli.specs.declared.debugging.Session.{Session}
 use Rattle.uxn_cli.specs.RunJob.{Debugging, RunJob, debugging}
-use Rattle.uxn_cli.specs.Verdict.{Run, Plan, planned, plan_of}
+use Rattle.uxn_cli.specs.Verdict.{Run, Print, Plan, planned, plan_of}
+
+-- a text that was made
+abbrev pub printed_plan : Vec ℕ → Plan
+printed_plan text = planned (Print text.items) []
 
 -- devices are new: they represent new ones with this script and this root, whatever lies there
 abbrev pub AreNew : Devices → ScriptView → Option (List ℕ) → Type 0

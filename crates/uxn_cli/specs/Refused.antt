@@ -1,9 +1,8 @@
--- What a refusal does; and files that a tree refused to create, as one that is exact counts and names them. A program with a root makes files of its own, of which
+-- Files that a tree refused to create, as one that is exact counts and names them. A program with a root makes files of its own, of which
 -- nothing is said here.
-use Rattle.std.specs.Prelude.{◌≡◌, ℕ, ◌⊎◌, List, [], ◌∷◌, ◌++◌, Option, None, Some, Result, Ok, Err, IfOk}
+use Rattle.std.specs.Prelude.{◌≡◌, ℕ, ◌⊎◌, List, None, Some, Result, Ok, Err, IfOk}
 use Rattle.uxn_io_traits.specs.Ended.{Refused as CreateRefused}
 use Rattle.uxn_io_traits.specs.Known.{extended}
-use Rattle.uxn_io_traits.specs.Outside.{World}
 use Rattle.uxn_io_traits.specs.State.{TreeState, SinkState}
 use Rattle.uxn_arguments.specs.declared.task.Task.{Task}
 use Rattle.uxn_arguments.specs.Options.{root_of}
@@ -14,23 +13,14 @@ use Rattle.uxn_task_files.specs.declared.refusal.Halt.TheVariants.{Refused, Stop
 use Rattle.uxn_task_files.specs.Lines.{refusal_line}
 use Rattle.uxn_task_files.specs.Statuses.{IsEarly, IsRefusing, early_status}
 
--- a line and nothing else was put
-abbrev pub PutsLine : Option (List ℕ) → Option (List ℕ) → Type 0
-PutsLine before now = (text : List ℕ) × (now ≡ extended before (text ++ 10 ∷ []))
-
--- nothing changes in the tree or on the standard output, and one line is put on the error output
-pub record OnlyPutsLine (before now : World) : Type 0 where
-  pub untouched : now.files ≡ before.files
-  pub quiet : now.out ≡ before.out
-  pub one_line : PutsLine before.err now.err
-
 -- what is asked has no root
 abbrev pub HasNoRoot : Result Task Refusal → Type 0
 HasNoRoot requested = IfOk requested (λ task. root_of task ≡ None)
 
 -- none was refused; or one, by a tree of unknown contents, and this came of it
 abbrev pub AtMostOne : TreeState → TreeState → (List ℕ → Type 0) → Type 0
-AtMostOne before now P = CreateRefused None before now ⊎ ((path : List ℕ) × (before.contents ≡ None) × CreateRefused (Some path) before now × P path)
+AtMostOne before now P = CreateRefused None before now ⊎ ((path : List ℕ) × (before.contents ≡ None)
+    × CreateRefused (Some path) before now × P path)
 
 -- the call is refused for it, and its line names it; or ended early then
 abbrev pub IsTold : SinkState → SinkState → ℕ → List ℕ → Type 0
@@ -39,7 +29,8 @@ IsTold before now status path =
 
 -- of a call that has no root, or is refused
 abbrev pub PassesNoneOver : Result Task Refusal → TreeState → TreeState → SinkState → SinkState → ℕ → Type 0
-PassesNoneOver requested before now err err_now status = HasNoRoot requested ⊎ IsRefusing status → AtMostOne before now (IsTold err err_now status)
+PassesNoneOver requested before now err err_now status =
+    HasNoRoot requested ⊎ IsRefusing status → AtMostOne before now (IsTold err err_now status)
 
 -- by how a step ended: a task is refused for the one, whose line is not put yet
 abbrev pub CountsRefusals : Result Task Refusal → TreeState → TreeState → SinkState → SinkState → Result ℕ Halt → Type 0

@@ -75,14 +75,12 @@ reference_trace budget outputs script root_view core = run budget outputs script
 
 -- that of the ROM, from what lies beneath the root in a tree
 abbrev pub trace_of : Option Nodes → RunJob → Trace
-trace_of files job = reference_trace job.task.budget (wanted_outputs job.task.frames job.task.samples) job.script (root_view_in files job.task.root) (new_core job.rom)
+trace_of files job = reference_trace job.task.budget (wanted_outputs job.task.frames job.task.samples) job.script
+    (root_view_in files job.task.root) (new_core job.rom)
 
 -- how a run ended, by its last state
 abbrev pub run_end : State → RunEnd
 run_end state = record { exit = exit_code_at state; tally = state.tally }
-
-abbrev pub exit_of : Option Nodes → RunJob → ℕ
-exit_of files job = exit_code_at (trace_of files job).last
 
 -- a line of a report: a word and a number
 abbrev pub report_line : List ℕ → ℕ → List ℕ

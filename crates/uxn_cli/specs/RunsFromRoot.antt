@@ -27,7 +27,8 @@ use Rattle.uxn_cli.specs.declared.running.Settings.{Settings}
 
 -- this holds of the folder of a program's own files, as the contents of the tree have it
 abbrev pub AtRootView : Option (List ℕ) → Option Nodes → (RootView → Type 0) → Type 0
-AtRootView root tree P = (root_view : RootView) → root_view.root ≡ root → HasFiles tree root_view.root root_view.part root_view.parent → P root_view
+AtRootView root tree P = (root_view : RootView) → root_view.root ≡ root
+    → HasFiles tree root_view.root root_view.part root_view.parent → P root_view
 
 -- how the machine of a task is run
 abbrev pub task_settings : RunTask → Settings
@@ -67,9 +68,10 @@ pub record RunsOverOutside (trace : Trace) (changes : List Change) (watched : Ty
   pub names : IfErr result (λ stop. stop ≡ NoMemory → watched ⊎ TraceTakesNames trace)
 
 -- a machine was run beneath a root, on a trace that depends on what lies there, and what is to be written behind it was written
-pub record RunsFromRoot (root : Option (List ℕ)) (trace : RootView → Trace) (changes : Trace → List Change) (watched : Type 0) (before now : Outside)
-    (result : Result RunEnd Stop) : Type 0 where
-  pub from : AtRootView root before.world.files (λ root_view. RunsOverOutside (trace root_view) (changes (trace root_view)) watched before now result)
+pub record RunsFromRoot (root : Option (List ℕ)) (trace : RootView → Trace) (changes : Trace → List Change) (watched : Type 0)
+    (before now : Outside) (result : Result RunEnd Stop) : Type 0 where
+  pub from : AtRootView root before.world.files
+      (λ root_view. RunsOverOutside (trace root_view) (changes (trace root_view)) watched before now result)
   -- of a tree of unknown contents too: the count of whoever is to blame rose, memory ran out to a watcher or beneath a root,
   -- files outside the root stay, and the exit code is one
   pub ledger : Ledger before.faults now.faults (result_blame result)

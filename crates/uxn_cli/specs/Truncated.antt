@@ -1,36 +1,15 @@
 -- What follows of a call that ends early.
-use Rattle.std.specs.Prelude.{◌≡◌, ℕ, ◌⊎◌, true, List, ◌++◌, map, Option, Some, Result, Ok}
-use Rattle.std.specs.List.{list_any}
-use Rattle.std.specs.Str.{bytes_eq}
+use Rattle.std.specs.Prelude.{◌≡◌, ℕ, ◌⊎◌, List, ◌++◌, Option, Some, Result}
 use Rattle.uxn_io_traits.specs.Faults.{Counts, Rose}
 use Rattle.uxn_io_traits.specs.Files.{Node, File}
-use Rattle.uxn_io_traits.specs.Outside.{World, changed_by, IsCutOff}
+use Rattle.uxn_io_traits.specs.Outside.{World, changed_by}
 use Rattle.uxn_io_traits.specs.Known.{extended}
 use Rattle.varvara_bus.specs.Touching.{contents_at}
 use Rattle.uxn_task_files.specs.declared.refusal.Refusal.{Refusal}
 use Rattle.uxn_task_files.specs.Statuses.{IsEarly}
-use Rattle.uxn_opcodes.specs.declared.Stop.TheVariants.{NoMemory}
-use Rattle.uxn_cli.specs.Answer.{MayStop}
 use Rattle.uxn_cli.specs.Call.{Call, OfVerdict}
-use Rattle.uxn_cli.specs.Outcome.{outcome_of}
-use Rattle.uxn_cli.specs.RunJob.{job_outputs}
-use Rattle.uxn_cli.specs.Verdict.{Work, Run, Write}
-
--- what is accepted ends with its exit code, unless a count rose or memory ran out
-abbrev pub IsComplete : Call → Type 0
-IsComplete c = OfVerdict c (λ verdict. (work : Work) → verdict ≡ Ok work
-    → (Rose c.before.faults.tree.faults c.now.faults.tree.faults → ⊥)
-    → (Rose c.before.faults.out.faults c.now.faults.out.faults → ⊥) → (Rose c.before.faults.err.faults c.now.faults.err.faults → ⊥)
-    → (c.status ≡ (outcome_of c.before.world.files (Ok work)).status) ⊎ (c.status ≡ 138))
-
--- when out of memory all is as it was, but where a debugger watches the run or it takes the names of a folder
-abbrev pub IsUnchangedWithoutMemory : Call → Type 0
-IsUnchangedWithoutMemory c =
-    OfVerdict c (λ verdict. c.status ≡ 138 → (c.now.world ≡ c.before.world) ⊎ MayStop c.before.world.files verdict NoMemory)
-
--- a prefix of the changes of the outcome was made, perhaps none of them
-abbrev pub IsCutShort : Call → Type 0
-IsCutShort c = OfVerdict c (λ verdict. IsEarly c.status → IsCutOff c.before.world c.now.world (outcome_of c.before.world.files verdict).changes)
+use Rattle.uxn_cli.specs.Outcome.{outcome_of, IsOutputOf}
+use Rattle.uxn_cli.specs.Verdict.{Work}
 
 -- the tree's count of faults rose with 136, and a sink's with 137
 pub record RaisesACount (before now : Counts) (status : ℕ) : Type 0 where
@@ -47,12 +26,6 @@ pub record HoldsPrefix (before now whole : Option (List ℕ)) : Type 0 where
   pub kept : IsPrefixOf before now
   pub prefix : IsPrefixOf now whole
 
--- a file that the work of a verdict writes
-abbrev pub IsOutputOf : Result Work Refusal → List ℕ → Type 0
-IsOutputOf (Ok (Run job)) path = list_any (bytes_eq path) (job_outputs job) ≡ true
-IsOutputOf (Ok (Write texts)) path = list_any (bytes_eq path) (map (λ text. text.path) texts) ≡ true
-IsOutputOf _ path = ⊥
-
 -- at a path stands what stood there, or a file with a prefix of what it is to hold
 abbrev pub HoldsFilePrefix : Option (Option Node) → Option (Option Node) → Option (Option Node) → Type 0
 HoldsFilePrefix before now whole = (now ≡ before)
@@ -64,7 +37,8 @@ pub record HoldsPrefixes (verdict : Result Work Refusal) (before now : World) : 
   pub out : HoldsPrefix before.out now.out (changed_by before (outcome_of before.files verdict).changes).out
   pub err : HoldsPrefix before.err now.err (changed_by before (outcome_of before.files verdict).changes).err
   pub files : (path : List ℕ) → IsOutputOf verdict path
-      → HoldsFilePrefix (contents_at path before.files) (contents_at path now.files) (contents_at path (changed_by before (outcome_of before.files verdict).changes).files)
+      → HoldsFilePrefix (contents_at path before.files) (contents_at path now.files)
+      (contents_at path (changed_by before (outcome_of before.files verdict).changes).files)
 
 abbrev pub LeavesPrefixes : Call → Type 0
 LeavesPrefixes c = OfVerdict c (λ verdict. IsEarly c.status → HoldsPrefixes verdict c.before.world c.now.world)

@@ -1,23 +1,24 @@
 -- What is asked of the tree before anything is done, in the order of work, and what is to be done then: a refusal, or the work.
-use Rattle.std.specs.Prelude.{ℕ, List, [], codes, Option, option_map, Result, Ok, Err}
-use Rattle.play_script.specs.Scripts.{ScriptView, script_of}
+use Rattle.std.specs.Prelude.{ℕ, List, [], codes, if◌then◌else◌, Option, option_map, unwrap_or, Result, Ok, Err}
+use Rattle.std.specs.List.{list_all}
+use Rattle.uxn_limits.specs.declared.limits.TheConstants.{USUAL_BUDGET}
+use Rattle.play_script.specs.Scripts.{script_of}
 use Rattle.tal_rom.specs.Assembly.{first_fault, rom_of}
 use Rattle.tal_assembly.specs.Sources.{own_by}
 use Rattle.uxn_inquiry.specs.Inquiry.{Inquiry, Answer, and_then, result_as}
 use Rattle.uxn_task_files.specs.declared.refusal.Refusal.{Refusal}
-use Rattle.uxn_task_files.specs.declared.refusal.Refusal.TheVariants.{Faulty}
-use Rattle.uxn_task_files.specs.Accepted.{validated_script, debug_labels, GivenInputs, run_of, SourceFiles, files_of}
+use Rattle.uxn_task_files.specs.declared.refusal.Refusal.TheVariants.{Faulty, OtherEvents}
+use Rattle.uxn_task_files.specs.Accepted.{validated_script, debug_labels, GivenInputs, run_of, files_of}
 use Rattle.uxn_task_files.specs.Accepted.{disassembly_of, Machines, machines_of, free_outputs}
 use Rattle.uxn_arguments.specs.Values.{then_steps}
 use Rattle.uxn_task_files.specs.World.{Text}
-use Rattle.uxn_line.specs.Streams.{LineJob}
+use Rattle.uxn_line.specs.Streams.{LineJob, is_of_console}
 use Rattle.uxn_arguments.specs.Options.{outputs_of}
 use Rattle.uxn_arguments.specs.declared.task.DebugTask.{DebugTask}
 use Rattle.uxn_arguments.specs.declared.task.RunTask.{RunTask}
 use Rattle.uxn_arguments.specs.declared.task.Task.{Task}
 use Rattle.uxn_arguments.specs.declared.task.Task.TheVariants as tasks
 use Rattle.uxn_workload.specs.Source.{workload_source}
-use Rattle.uxn_cli.specs.Console.{console_script, line_job}
 use Rattle.uxn_cli.specs.RunJob.{Debugging, RunJob, debugging}
 use Rattle.uxn_cli.specs.Workload.{workload_text}
 
@@ -51,10 +52,6 @@ pub record Plan : Type 0 where
 abbrev pub planned : Work → List (List ℕ) → Plan
 planned work included = record { work = work; included = included }
 
--- a text that is printed, which is about no source
-abbrev pub text_plan : List ℕ → Plan
-text_plan text = planned (Print text) []
-
 -- a run, once its inputs are accepted
 abbrev pub run_plan : RunTask → Option DebugTask → GivenInputs → Plan
 run_plan run debug given = planned (Run (run_job run debug given)) given.program.included
@@ -62,16 +59,13 @@ run_plan run debug given = planned (Run (run_job run debug given)) given.program
 unfoldable pub run_plan_of : RunTask → Option DebugTask → Inquiry (Result Plan Refusal)
 run_plan_of run debug = and_then (run_of run debug) (λ given. Answer (Ok (run_plan run debug given)))
 
--- files that are written out of a source
-abbrev pub write_plan : SourceFiles → Plan
-write_plan files = planned (Write files.texts) files.included
-
--- machines in a line, where their script can be given to one
-abbrev pub line_plan : Machines → ScriptView → Plan
-line_plan machines script = planned (RunLine (line_job machines.setup machines.roms script)) []
+-- machines in a line, where their script has events of the console alone: bytes of input and ends of input (139)
+abbrev pub line_job : Machines → LineJob
+line_job machines = record { roms = machines.roms; script = machines.script; budget = unwrap_or machines.setup.budget USUAL_BUDGET }
 
 abbrev pub accepted_line : Machines → Result Plan Refusal
-accepted_line machines = then_steps (console_script machines.script) (λ script. Ok (line_plan machines script))
+accepted_line machines =
+    if list_all is_of_console machines.script.events then Ok (planned (RunLine (line_job machines)) []) else Err OtherEvents
 
 unfoldable pub line_plan_of : List ℕ → Inquiry (Result Plan Refusal)
 line_plan_of path = and_then (machines_of path) (λ machines. Answer (accepted_line machines))
@@ -79,9 +73,9 @@ line_plan_of path = and_then (machines_of path) (λ machines. Answer (accepted_l
 -- the inputs of a task, and the work that they ask for
 abbrev pub plan_of : Task → Inquiry (Result Plan Refusal)
 plan_of (tasks.Run run debug) = run_plan_of run debug
-plan_of (tasks.Assemble task) = and_then (files_of task) (λ files. Answer (Ok (write_plan files)))
-plan_of (tasks.Disassemble task) = and_then (disassembly_of task) (λ text. Answer (Ok (text_plan text)))
-plan_of (tasks.Generate count) = Answer (then_steps (accepted_summary count) (λ text. Ok (text_plan text)))
+plan_of (tasks.Assemble task) = and_then (files_of task) (λ files. Answer (Ok (planned (Write files.texts) files.included)))
+plan_of (tasks.Disassemble task) = and_then (disassembly_of task) (λ text. Answer (Ok (planned (Print text) [])))
+plan_of (tasks.Generate count) = and_then (Answer (accepted_summary count)) (λ text. Answer (Ok (planned (Print text) [])))
 plan_of (tasks.Line path) = line_plan_of path
 
 -- then the outputs: each can be made and is no included file

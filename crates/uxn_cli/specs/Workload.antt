@@ -1,34 +1,23 @@
 -- The run of a workload, and what is said of it (profile).
-use Rattle.std.specs.Prelude.{◌≡◌, ℕ, List, [], length, Some, None, unwrap_or}
-use Rattle.std.specs.FinMap as nodes_map
-use Rattle.uxn_io_traits.specs.Outside.{World, changed_by}
+use Rattle.std.specs.Prelude.{◌≡◌, ℕ, List, length}
+use Rattle.uxn_limits.specs.declared.limits.TheConstants.{USUAL_BUDGET}
 use Rattle.uxn_opcodes.specs.declared.Core.{Core}
-use Rattle.uxn_opcodes.specs.Rule.{new_core}
 use Rattle.play_script.specs.Scripts.{ScriptView}
 use Rattle.vector_loop.specs.Trace.{Trace}
+use Rattle.uxn_line.specs.Places.{no_outputs, put_by}
+use Rattle.uxn_line.specs.Streams.{run_of}
 use Rattle.uxn_workload.specs.Summary.{Summary, summary_text}
-use Rattle.uxn_cli.specs.RunJob.{no_root_view, wanted_outputs, reference_trace, run_end}
+use Rattle.uxn_cli.specs.RunJob.{no_root_view, reference_trace, run_end}
 use Rattle.uxn_cli.specs.declared.running.RunEnd.{RunEnd}
 
--- its own outside before the run: nothing was put, and there is no file
-abbrev pub empty_world : World
-empty_world = record { out = Some []; err = Some []; files = Some nodes_map.empty }
-
--- it runs with no root, keeps neither pictures nor samples, and a vector has at most 4,000,000 instructions
+-- the run of a machine that stands alone: it has no root, and keeps neither pictures nor samples
 abbrev pub lone_trace : Core → ScriptView → Trace
-lone_trace core script = reference_trace 4000000 (wanted_outputs None None) script no_root_view core
-
-abbrev pub workload_trace : List ℕ → ScriptView → Trace
-workload_trace rom script = lone_trace (new_core rom) script
-
--- the bytes that a run puts on the standard output
-abbrev pub console_text : Trace → List ℕ
-console_text trace = unwrap_or (changed_by empty_world trace.changes).out []
+lone_trace core script = reference_trace USUAL_BUDGET no_outputs script no_root_view core
 
 -- a run that is over, and the bytes that it put on an output of its own
 pub record HasRunAlone (trace : Trace) (end : RunEnd) (put : List ℕ) : Type 0 where
   pub ends : end ≡ run_end trace.last
-  pub bytes : put ≡ console_text trace
+  pub bytes : put ≡ put_by trace.changes
 
 abbrev pub run_summary : List ℕ → List ℕ → RunEnd → List ℕ → Summary
 run_summary source rom end console = record {
@@ -42,9 +31,7 @@ run_summary source rom end console = record {
   exit = end.exit;
 }
 
-abbrev pub trace_summary : List ℕ → List ℕ → Trace → Summary
-trace_summary source rom trace = run_summary source rom (run_end trace.last) (console_text trace)
-
--- the summary of a source, its ROM, and its run over a script
+-- the summary of a source, its ROM, and its run over a script, as a machine of a line runs
 unfoldable pub workload_text : List ℕ → List ℕ → ScriptView → List ℕ
-workload_text source rom script = summary_text (trace_summary source rom (workload_trace rom script))
+workload_text source rom script =
+    let trace = run_of USUAL_BUDGET rom script in summary_text (run_summary source rom (run_end trace.last) (put_by trace.changes))

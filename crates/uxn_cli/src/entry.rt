@@ -4,8 +4,8 @@ ghost use Rattle.uxn_task_files.specs.Request.{request};
 ghost use Rattle.uxn_task_files.specs.Blame.{as_step};
 ghost use Rattle.uxn_task_files.specs.Statuses.{early_status};
 ghost use Rattle.uxn_cli.specs.Call.{call, call_on};
-ghost use Rattle.uxn_cli.specs.Clauses.{HasItsOutcome, LeavesTheRest, HasStatuses, EndsEarlyByFaults, GivesTheSame, FailsNotWhereGuaranteed};
-ghost use Rattle.uxn_cli.specs.Clauses.{ComesOut};
+ghost use Rattle.uxn_cli.specs.Clauses.{HasItsOutcome, LeavesTheRest, HasStatuses, EndsEarlyByFaults, IsCutShort};
+ghost use Rattle.uxn_cli.specs.Clauses.{GivesTheSame, FailsNotWhereGuaranteed, ComesOut};
 ghost use Rattle.uxn_cli.specs.Outside.{DoesWork, SameHost, state_of_host};
 ghost use Rattle.uxn_cli.specs.Refused.{PassesNoneOver};
 
@@ -90,13 +90,17 @@ fn status_of<T: Tree, O: Sink, E: Sink>(
 /// - `line SETUP` runs the machines of a setup in a line: what each writes to port 18 is given to the next one, and the bytes of
 ///   the last one go to `out`. Bytes to port 19 and debug texts are dropped.
 ///
-/// The status of a run is its exit code, 0 to 127, that of a line is the exit code of its last machine, and else it is 0. A refusal puts
-/// its one line on `err` and nothing else: 128 for words that are not legal, 129 for a word that is no path, 130 for an input that is no file, 131
-/// for a source with a fault, 132 for a script and 133 for commands with a faulty line, 134 for a ROM that is too long (1,048,320
-/// bytes for `play` and `debug`, 65,280 for `dis`) or a faulty symbol file, 135 for an output that clashes or cannot be made, 139
-/// for a setup with a faulty line or the script of one that has other events than input and its end. The call ends early with
-/// 136 where the tree failed, with 137 where a sink failed, and with 138 when out of memory: in a `play` only before
-/// anything was done, or as its program lists a folder.
+/// The status of a run is its exit code, 0 to 127. That of a line is the exit code of its last machine. Else it is 0. A refusal
+/// puts its one line on `err` and nothing else:
+///
+/// - 128 for words that are not legal, 129 for a word that is no path, 130 for an input that is no file;
+/// - 131 for a source with a fault, 132 for a script and 133 for commands with a faulty line;
+/// - 134 for a ROM that is too long (1,048,320 bytes for `play` and `debug`, 65,280 for `dis`) or a faulty symbol file;
+/// - 135 for an output that clashes or cannot be made;
+/// - 139 for a setup with a faulty line, or the script of one that has other events than input and its end.
+///
+/// The call ends early with 136 where the tree failed, with 137 where a sink failed, and with 138 when out of memory. Memory runs
+/// out in a `play` only before anything was done, or as its program lists a folder.
 pub fn uxn<T: Tree, O: Sink, E: Sink>(
     alloc: Global,
     words: &[String],
@@ -109,23 +113,22 @@ pub fn uxn<T: Tree, O: Sink, E: Sink>(
     // a tree of unknown contents a run ends with some exit code.
     ensures outcome { HasItsOutcome (call T.Tree O.Sink E.Sink words.now tree.old out.old err.old tree.new out.new err.new result) }
 
-    // What stands as before: every path that is no output and lies outside the root. A refusal changes nothing, and
-    // puts one line (`a_refusal_only_puts_its_line`).
+    // What stands as before: every path that is no output and lies outside the root; after a refusal all but its one line.
     ensures rest { LeavesTheRest (call T.Tree O.Sink E.Sink words.now tree.old out.old err.old tree.new out.new err.new result) }
 
-    // When the call is refused for each reason, of which two depend on the words alone, and when it ends with its exit code.
+    // When the call ends with the status of each refusal, of which two depend on the words alone, and with each exit code.
     ensures statuses { HasStatuses (call T.Tree O.Sink E.Sink words.now tree.old out.old err.old tree.new out.new err.new result) }
 
-    // When it ends early: a fault is answered exactly where a count rose in this call (`a_fault_raises_a_count`,
-    // `accepted_work_is_complete`), and memory runs out before anything is done, but where a debugger watches the run or it
-    // takes the names of a folder (`out_of_memory_changes_nothing`). A prefix of the outcome's changes stands then
-    // (`an_early_end_leaves_a_prefix`), so each output, and each file that is written, has a prefix of what the outcome
-    // gives it (`an_early_end_leaves_prefixes`).
+    // When it ends early: a fault is answered only where a count rose in this call (`a_fault_raises_a_count`). Memory runs
+    // out before anything is done, but where a debugger watches the run or it takes the names of a folder.
     ensures early { EndsEarlyByFaults (call T.Tree O.Sink E.Sink words.now tree.old out.old err.old tree.new out.new err.new result) }
 
-    // What gives the same: the same words over every other tree that replies the same to what is asked of it and, where a
-    // program runs, is the same beneath its root. So does `play` with the items of a `debug`, but for the log
-    // (`debug_gives_what_play_gives`).
+    // What stands after an early end: a prefix of the changes of the outcome, so each output, and each file that is written,
+    // has a prefix of what the outcome gives it (`an_early_end_leaves_prefixes`).
+    ensures cut_off { IsCutShort (call T.Tree O.Sink E.Sink words.now tree.old out.old err.old tree.new out.new err.new result) }
+
+    // What other calls give the same: `play` with the items of a `debug`, but for the log; and the same words over every
+    // other tree that replies the same to what is asked of it and, where a program runs, is the same beneath its root.
     ensures same { GivesTheSame (call T.Tree O.Sink E.Sink words.now tree.old out.old err.old tree.new out.new err.new result) }
 
     // Where the tree and the sinks are guaranteed to take what the verdict asks of them, none of them fails.
@@ -133,7 +136,8 @@ pub fn uxn<T: Tree, O: Sink, E: Sink>(
 
     // No call of `create` that the tree refused is ignored: a tree that is exact counts none, but for the one for which the call
     // is refused, whose path is the one in its line; where a program has a root, its own are not spoken of.
-    ensures refusals { PassesNoneOver (request (map string_bytes words.now)) (T.state tree.old) (T.state tree.new) (E.state err.old) (E.state err.new) result }
+    ensures refusals { PassesNoneOver (request (map string_bytes words.now))
+        (T.state tree.old) (T.state tree.new) (E.state err.old) (E.state err.new) result }
 {
     let mut host = Host { tree, out, err };
     status_of(alloc, words, &mut host)

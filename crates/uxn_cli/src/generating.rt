@@ -21,15 +21,13 @@ use tal_rom::{Assembly, assemble};
 use tal_words::AsmStop;
 use uxn_inquiry::Halt;
 use uxn_io::MemTree;
+use uxn_limits::limits;
 use uxn_task_files::{Refusal, validate_script};
 use uxn_workload::{GrowingSink, Ran, source};
 use vector_loop::{NoWatch, Outputs};
 
 /// The script of a workload.
 const SCRIPT: &[u8] = b"frame 60";
-
-/// The greatest number of instructions of a vector of a workload.
-const BUDGET: u32 = 4_000_000;
 
 /// What is said of a workload that ran, and of the bytes that it printed.
 #[tactic(auto, unfolding(crate::specs::Workload::workload_text))]
@@ -70,7 +68,7 @@ fn run_alone(
             frames: None,
             samples: None,
         },
-        budget: BUDGET,
+        budget: limits::USUAL_BUDGET,
     };
     let mut tree = MemTree::new(alloc, &[], 0, 0, &[])?;
     let mut err = GrowingSink::new(alloc);

@@ -5,65 +5,41 @@ ghost use Rattle.uxn_task_files.specs.Request.{request};
 ghost use Rattle.uxn_cli.specs.Verdict.{Work};
 ghost use Rattle.uxn_cli.specs.Call.{Call};
 ghost use Rattle.uxn_cli.specs.Causes.{tree_verdict};
-ghost use Rattle.uxn_cli.specs.Clauses.{ComesOut, EndsEarlyByFaults};
-ghost use Rattle.uxn_cli.specs.Refused.{OnlyPutsLine};
-ghost use Rattle.uxn_cli.specs.Truncated.{IsComplete, IsUnchangedWithoutMemory, IsCutShort, RaisesACount, LeavesPrefixes};
-ghost use Rattle.uxn_task_files.specs.Statuses.{IsRefusing};
+ghost use Rattle.uxn_cli.specs.Clauses.{EndsEarlyByFaults, IsCutShort};
+ghost use Rattle.uxn_cli.specs.Truncated.{RaisesACount, LeavesPrefixes};
 ghost use Rattle.uxn_inquiry.specs.Along.{AgreeAlong};
 ghost use Rattle.uxn_inquiry.specs.Inquiry.{answer_in};
 ghost use Rattle.uxn_arguments.specs.declared.task.Task.{Task};
 ghost use Rattle.uxn_task_files.specs.Accepted.{source_of, first_source};
 ghost use Rattle.uxn_task_files.specs.declared.refusal.Refusal.{Refusal};
 ghost use Rattle.uxn_cli.specs.Verdict.{inquiry_of};
-ghost use Rattle.uxn_cli.specs.Observation.{OnlyWatches, HaveSameItems, ShowsWhatPlayDoes, GivesWhatPlayGives};
-
-/// A refusal changes nothing in the tree and puts nothing on the standard output, and one line on the error output.
-pub fn a_refusal_only_puts_its_line()
-    ensures { (c : Call) → ComesOut c → IsRefusing c.status → OnlyPutsLine c.before.world c.now.world }
-{}
-
-/// What is accepted ends with the status of its outcome, unless a count of faults rose in the call or memory ran out.
-pub fn accepted_work_is_complete()
-    ensures { (c : Call) → ComesOut c → IsComplete c }
-{}
-
-/// When out of memory all is as it was, unless a debugger watches the run or it takes the names of a folder.
-pub fn out_of_memory_changes_nothing()
-    ensures { (c : Call) → ComesOut c → IsUnchangedWithoutMemory c }
-{}
-
-/// After an early end a prefix of the changes of the outcome stands.
-pub fn an_early_end_leaves_a_prefix()
-    ensures { (c : Call) → ComesOut c → IsCutShort c }
-{}
-
-/// A call of `debug` gives what `play` gives with the same words but the commands, the log and the symbols, but for the log.
-pub fn debug_gives_what_play_gives()
-    ensures { (c : Call) → ComesOut c → GivesWhatPlayGives c }
-{}
+ghost use Rattle.uxn_cli.specs.Observation.{OnlyWatches, HaveSameItems, ShowsWhatPlayDoes};
 
 /// 136 comes only where the tree's count of faults rose in the call, and 137 only where a sink's did: by the clause `early`.
+#[tactic(auto, using(crate::proofs::CauseLemmas::tree_rose, crate::proofs::CauseLemmas::sink_rose))]
 pub fn a_fault_raises_a_count()
     ensures { (c : Call) → EndsEarlyByFaults c → RaisesACount c.before.faults c.now.faults c.status }
 {}
 
 /// After an early end each output, and each file that is written, holds a prefix of what the outcome gives it.
+#[tactic(auto, using(crate::proofs::PrefixLemmas::leaves_prefixes))]
 pub fn an_early_end_leaves_prefixes()
     ensures { (c : Call) → IsCutShort c → LeavesPrefixes c }
 {}
 
-/// A run under the debugger has the status of the run without it, and its changes but for the log, whose file is
-/// made first and gets its bytes last.
+/// A run under the debugger has the status of the run without it, and its changes but for the log. The file of the
+/// log is made first and gets its bytes last.
 #[tactic(auto, using(crate::proofs::ObservationLemmas::log_around))]
 pub fn the_debugger_only_watches()
     ensures { OnlyWatches }
 {}
 
-/// Where `debug` comes to its run, `play` with the same words but the commands, the log and the symbols comes to
-/// that run too: over every tree of files both give the same status and the same bytes to both outputs, and the same
+/// Where a `debug` is accepted, `play` with the same words but the commands, the log and the symbols results in
+/// the same run. Over every tree of files both give the same status and the same bytes to both outputs, and the same
 /// stands afterwards beneath the root and at every path but that of the log.
 pub fn debug_shows_what_play_does()
-    ensures { (nodes : Nodes) (words others : List (List ℕ)) (work : Work) (items : HaveSameItems words others) → tree_verdict nodes (request words) ≡ Ok work
+    ensures { (nodes : Nodes) (words others : List (List ℕ)) (work : Work) (items : HaveSameItems words others)
+        → tree_verdict nodes (request words) ≡ Ok work
         → ShowsWhatPlayDoes nodes words others items work }
 {}
 
@@ -76,6 +52,7 @@ pub fn a_verdict_depends_on_what_is_asked()
 
 /// A source that is refused depends on its own bytes, and on the files that are read before its fault: over every other tree that is
 /// the same in these the call is refused so, whatever else is there.
+#[tactic(auto, using(crate::proofs::IsolationLemmas::alone))]
 pub fn a_refused_source_is_alone()
     ensures { (task : Task) (path : List ℕ) (nodes other : Nodes) (refusal : Refusal) → first_source task ≡ Some path
         → answer_in nodes (source_of path) ≡ Err refusal → AgreeAlong nodes other (source_of path)

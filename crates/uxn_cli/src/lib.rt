@@ -15,8 +15,6 @@ mod work;
 
 pub use entry::uxn;
 pub use laws::{
-    a_fault_raises_a_count, a_refusal_only_puts_its_line, a_refused_source_is_alone,
-    a_verdict_depends_on_what_is_asked, accepted_work_is_complete, an_early_end_leaves_a_prefix,
-    an_early_end_leaves_prefixes, debug_gives_what_play_gives, debug_shows_what_play_does,
-    out_of_memory_changes_nothing, the_debugger_only_watches,
+    a_fault_raises_a_count, a_refused_source_is_alone, a_verdict_depends_on_what_is_asked,
+    an_early_end_leaves_prefixes, debug_shows_what_play_does, the_debugger_only_watches,
 };

@@ -3,14 +3,14 @@ ghost use Rattle.std.specs.Prelude.{◌≡◌, ◌≤◌, length, IfOk};
 ghost use Rattle.uxn_memory.specs.Bytes.{largest_rom};
 ghost use Rattle.uxn_opcodes.specs.Rule.{new_core};
 ghost use Rattle.uxn_undo.specs.Row.{IsMachine};
-ghost use Rattle.uxn_line.specs.Streams.{clock_by};
 ghost use Rattle.uxn_cli.specs.Prepared.{AreNew};
 
 use play_script::Script;
 use std::alloc::{AllocError, Global};
 use uxn_io_traits::Path;
+use uxn_line::clock_of;
 use uxn_opcodes::Core;
-use varvara_bus::{Clock, Devices};
+use varvara_bus::Devices;
 
 /// A machine with a program, before its run.
 #[derive(Drop)]
@@ -32,17 +32,6 @@ pub fn core_known(core: &Core)
     core.returns.known();
 }
 
-/// The clock of a machine that is given a script.
-fn clock_of(script: &Script) -> Clock
-    ensures { result ≡ clock_by script.now.clock }
-{
-    let clock = script.clock();
-    Clock {
-        seconds: clock.seconds,
-        offset: clock.offset,
-    }
-}
-
 /// A new machine, with all the memory that its run takes, but for the listing of a folder.
 pub fn new_machine(
     alloc: Global,
@@ -57,7 +46,7 @@ pub fn new_machine(
 {
     let core = Core::new(alloc, rom)?;
     script.known();
-    let devices = Devices::new(alloc, root, clock_of(&script))?;
+    let devices = Devices::new(alloc, root, clock_of(script.clock()))?;
     Ok(Machine {
         core,
         devices,

@@ -163,7 +163,8 @@ pub fn play<T: Tree, O: Sink, E: Sink>(
 ) -> Result<u8, Halt>
     requires apart { HasApartOutputs (tasks.Run run.now debug.now) }
     requires budget { 1 ≤ run.now.budget }
-    ensures does { DoesWork (Ok (tasks.Run run.now debug.now)) (state_of_host T.Tree O.Sink E.Sink host.old) (state_of_host T.Tree O.Sink E.Sink host.new) result }
+    ensures does { DoesWork (Ok (tasks.Run run.now debug.now))
+        (state_of_host T.Tree O.Sink E.Sink host.old) (state_of_host T.Tree O.Sink E.Sink host.new) result }
     ensures same { SameHost host.old host.new }
 {
     let prepared = prepare(alloc, run, debug, host.tree)?;

@@ -8,7 +8,8 @@ ghost use Rattle.uxn_task_files.specs.World.{requested_output};
 ghost use Rattle.uxn_task_files.specs.Writing.{filling_all};
 ghost use Rattle.uxn_cli.specs.Prepared.{AreNew};
 ghost use Rattle.uxn_io_traits.specs.Ended.{RefusesNone, TreeEnded};
-ghost use Rattle.uxn_cli.specs.RunsFromRoot.{AtRootView, RunsFromRoot, RunFiles, WasShown, task_settings, machine_trace, task_trace, reported_changes};
+ghost use Rattle.uxn_cli.specs.RunsFromRoot.{AtRootView, RunsFromRoot, RunFiles, WasShown, task_settings};
+ghost use Rattle.uxn_cli.specs.RunsFromRoot.{machine_trace, task_trace, reported_changes};
 
 use super::host::Host;
 use super::machine::Machine;

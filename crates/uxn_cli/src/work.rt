@@ -3,16 +3,22 @@ ghost use Rattle.std.specs.Prelude.{Ok};
 ghost use Rattle.uxn_arguments.specs.Options.{HasBudget};
 ghost use Rattle.uxn_arguments.specs.Places.{HasApartOutputs};
 ghost use Rattle.uxn_arguments.specs.declared.task.Task.TheVariants as tasks;
-ghost use Rattle.uxn_cli.specs.Outside.{DoesWork, SameHost, state_of_host};
+ghost use Rattle.uxn_arguments.specs.declared.task.Task.{Task};
+ghost use Rattle.uxn_inquiry.specs.Inquires.{Inquires};
+ghost use Rattle.uxn_io_traits.specs.State.{TreeState};
+ghost use Rattle.uxn_cli.specs.Outside.{DoesWork, SameHost, host_state, state_of_host};
+ghost use Rattle.uxn_cli.specs.Prepared.{printed_plan};
+ghost use Rattle.uxn_cli.specs.Verdict.{plan_of};
 
 use super::generating::summarize;
 use super::host::Host;
 use super::joining::{join_up, run_line};
 use super::playing::play;
 use std::alloc::Global;
-use uxn_arguments::{AssembleTask, DisassembleTask, Task};
+use uxn_arguments::{AssembleTask, Task};
+use uxn_inquiry::Halt as InquiryHalt;
 use uxn_io_traits::{Path, Sink, Tree};
-use uxn_task_files::{Halt, assemble, disassemble_rom, print, write_outputs};
+use uxn_task_files::{Halt, Refusal, assemble, disassemble_rom, print, write_outputs};
 
 /// Writes the files of a source.
 fn write<T: Tree, O: Sink, E: Sink>(
@@ -21,36 +27,25 @@ fn write<T: Tree, O: Sink, E: Sink>(
     host: &mut Host<'_, '_, '_, T, O, E>,
 ) -> Result<u8, Halt>
     requires apart { HasApartOutputs (tasks.Assemble task.now) }
-    ensures does { DoesWork (Ok (tasks.Assemble task.now)) (state_of_host T.Tree O.Sink E.Sink host.old) (state_of_host T.Tree O.Sink E.Sink host.new) result }
+    ensures does { DoesWork (Ok (tasks.Assemble task.now))
+        (state_of_host T.Tree O.Sink E.Sink host.old) (state_of_host T.Tree O.Sink E.Sink host.new) result }
     ensures same { SameHost host.old host.new }
 {
     let written = assemble(alloc, task, host.tree)?;
     write_outputs(&written, host.tree).and(Ok(0))
 }
 
-/// Prints the disassembly of a ROM.
-fn print_disassembly<T: Tree, O: Sink, E: Sink>(
-    alloc: Global,
-    task: &DisassembleTask,
+/// Prints the text of a task, or hands on why there is none.
+fn print_text<T: Tree, O: Sink, E: Sink>(
+    said: Result<Vec<u8>, InquiryHalt<Refusal>>,
     host: &mut Host<'_, '_, '_, T, O, E>,
 ) -> Result<u8, Halt>
-    ensures does { DoesWork (Ok (tasks.Disassemble task.now)) (state_of_host T.Tree O.Sink E.Sink host.old) (state_of_host T.Tree O.Sink E.Sink host.new) result }
+    ensures does { (task : Task) (start : TreeState) → Inquires printed_plan (plan_of task) start (T.state host.old.tree.now) said
+        → DoesWork (Ok task) (host_state start (O.state host.old.out.now) (E.state host.old.err.now))
+        (state_of_host T.Tree O.Sink E.Sink host.new) result }
     ensures same { SameHost host.old host.new }
 {
-    let text = disassemble_rom(alloc, task, host.tree)?;
-    print(&text, host.out)
-}
-
-/// Prints the summary of a workload.
-fn print_summary<T: Tree, O: Sink, E: Sink>(
-    alloc: Global,
-    count: u16,
-    host: &mut Host<'_, '_, '_, T, O, E>,
-) -> Result<u8, Halt>
-    ensures does { DoesWork (Ok (tasks.Generate count)) (state_of_host T.Tree O.Sink E.Sink host.old) (state_of_host T.Tree O.Sink E.Sink host.new) result }
-    ensures same { SameHost host.old host.new }
-{
-    let text = summarize(alloc, count)?;
+    let text = said?;
     print(&text, host.out)
 }
 
@@ -60,7 +55,8 @@ fn join<T: Tree, O: Sink, E: Sink>(
     path: &Path,
     host: &mut Host<'_, '_, '_, T, O, E>,
 ) -> Result<u8, Halt>
-    ensures does { DoesWork (Ok (tasks.Line path.now)) (state_of_host T.Tree O.Sink E.Sink host.old) (state_of_host T.Tree O.Sink E.Sink host.new) result }
+    ensures does { DoesWork (Ok (tasks.Line path.now))
+        (state_of_host T.Tree O.Sink E.Sink host.old) (state_of_host T.Tree O.Sink E.Sink host.new) result }
     ensures same { SameHost host.old host.new }
 {
     let joined = join_up(alloc, path, host.tree)?;
@@ -81,8 +77,8 @@ pub fn carry_out<T: Tree, O: Sink, E: Sink>(
     match task {
         Task::Run(run, debug) => play(alloc, run, debug, host),
         Task::Assemble(task) => write(alloc, task, host),
-        Task::Disassemble(task) => print_disassembly(alloc, task, host),
-        Task::Generate(count) => print_summary(alloc, *count, host),
+        Task::Disassemble(task) => print_text(disassemble_rom(alloc, task, host.tree), host),
+        Task::Generate(count) => print_text(summarize(alloc, *count), host),
         Task::Line(path) => join(alloc, path, host),
     }
 }

@@ -1,9 +1,8 @@
 -- Outputs that do not clash are made and filled one after the other.
-use Rattle.uxn_task_files.proofs.Common.{Bool, IfSome, IsSome, List, None, Option, Some, [], arith, count_by, false, find, not}
-use Rattle.uxn_task_files.proofs.Common.{option_map, refl, sym, true, true≢false, ℕ, ◌&&◌, ◌∙◌, ◌∷◌, ◌≡◌, ◌≤◌, common_steps, All-cons}
-use Rattle.uxn_task_files.proofs.Common.{All-nil, bytes_eq-Decides, list_any, can_create, with_created, File, Node}
-use Rattle.uxn_task_files.proofs.Common.{Nodes, file_at, has_parent, get_put, put_elsewhere, put_other, same_or_other, clashes, meets}
-use Rattle.uxn_task_files.proofs.Common.{AreFiles, CanMake, Text, text_paths, with_empty}
+use Rattle.uxn_task_files.proofs.Common.{Bool, IfSome, IsSome, List, None, Option, Some, [], arith, count_by, false, find, not, option_map, refl, sym}
+use Rattle.uxn_task_files.proofs.Common.{true, true≢false, ℕ, ◌&&◌, ◌∙◌, ◌∷◌, ◌≡◌, ◌≤◌, common_steps, All-cons, All-nil, bytes_eq-Decides, list_any}
+use Rattle.uxn_task_files.proofs.Common.{can_create, with_created, File, Node, Nodes, file_at, has_parent, get_put, put_elsewhere, put_other}
+use Rattle.uxn_task_files.proofs.Common.{same_or_other, clashes, meets, AreFiles, CanMake, Text, text_paths, with_empty}
 use Rattle.uxn_io_traits.specs.PathLaws.{parent_under}
 pub use Rattle.uxn_task_files.proofs.PlaceLemmas.{no_clash-fewer}
 use Rattle.uxn_task_files.proofs.PlaceLemmas.{count-first, meets_parts, clash_parts}
@@ -21,10 +20,7 @@ kept_parent nodes path other node apart = grind (arith, common_steps, put_elsewh
 -- a file that can be made still can, once another that does not meet it was made
 create-keeps : (nodes : Nodes) (path other : List ℕ) → meets path other ≡ false → can_create nodes path ≡ true
     → can_create (with_created other nodes) path ≡ true
-create-keeps nodes path other apart can =
-    let parent = kept_parent nodes path other (File []) apart in
-    let here = put_elsewhere nodes other path (File []) (not_same path other apart) in
-    grind (arith, common_steps, parent, here)
+create-keeps = grind (arith, common_steps, kept_parent, put_elsewhere, not_same)
 
 -- ---- outputs that do not clash can be made one after the other
 
@@ -88,11 +84,7 @@ created-here : (nodes : Nodes) (path : List ℕ) → can_create nodes path ≡ t
 created-here nodes path can = rw can (get_put nodes path (File []))
 
 created-stays : (nodes : Nodes) (path other : List ℕ) → IsMade other nodes → IsMade other (with_created path nodes)
-created-stays nodes path other is =
-    let there = get_put nodes path (File []) in
-    let elsewhere = put_other nodes path other (File []) in
-    let two = same_or_other other path in
-    grind (arith, common_steps, there, elsewhere, two)
+created-stays = grind (arith, common_steps, get_put, put_other, same_or_other)
 
 made-stays : (texts : List Text) (nodes : Nodes) (path : List ℕ) → IsMade path nodes → IsMade path (with_empty texts nodes)
 made-stays [] nodes path is = is

@@ -1,12 +1,12 @@
 -- What calls of a tree did, one after the other.
-use Rattle.uxn_task_files.proofs.Common.{Bool, IfSome, IsSome, List, None, Option, Some, [], ap, arith, false, refl, subst, sym, true}
-use Rattle.uxn_task_files.proofs.Common.{true≢false, ℕ, ◌++◌, ◌∙◌, ◌∷◌, ◌≡◌, common_steps, All-head, All-tail, can_create, IsLeft, TreeEnded, TreeLooked}
-use Rattle.uxn_task_files.proofs.Common.{appending, contents_after, looked-ended, looked-nothing, contents_after-map, contents_after-none, tree-first, tree-then, Nodes}
-use Rattle.uxn_task_files.proofs.Common.{file_at, Change, Creates, TreeState, paths_of, observed_text, observed_texts, AreFiles, CanMake, Text, Did, creating_all}
-use Rattle.uxn_task_files.proofs.Common.{filling_all, writing, Output}
+use Rattle.uxn_task_files.proofs.Common.{Bool, IfSome, IsSome, List, None, Option, Some, [], ap, arith, false, refl, subst, sym, true, ℕ, ◌++◌, ◌∙◌}
+use Rattle.uxn_task_files.proofs.Common.{◌∷◌, ◌≡◌, common_steps, All-head, All-tail, can_create, TreeEnded, TreeLooked, appending, contents_after}
+use Rattle.uxn_task_files.proofs.Common.{looked-ended, looked-nothing, contents_after-map, contents_after-none, tree-first, tree-then, Nodes, file_at}
+use Rattle.uxn_task_files.proofs.Common.{Change, Creates, TreeState, paths_of, observed_text, observed_texts, AreFiles, CanMake, Text, Did}
+use Rattle.uxn_task_files.proofs.Common.{creating_all, filling_all, writing, Output}
 use Rattle.uxn_io_traits.specs.AppendingLaws.{contents_after-file}
 use Rattle.uxn_io_traits.specs.CallLaws.{ended-as, contents_after-creating, unknown-as}
-use Rattle.uxn_io_traits.specs.Ended.{Refused, TakesChanges, creating as creating_at, refused_also}
+use Rattle.uxn_io_traits.specs.Ended.{Refused, creating as creating_at, refused_also}
 use Rattle.uxn_io_traits.specs.FaultLaws.{counted-same}
 use Rattle.uxn_task_files.proofs.OutputLemmas.{observed_paths, keep_files}
 
@@ -19,16 +19,7 @@ unknown-before changes a b did none = (let is = did.stands ∙ contents_after-ma
 
 -- whatever is to be done to a tree of unknown contents is done
 unknown-done : (changes : List Change) (now : TreeState) → now.contents ≡ None → TreeEnded changes false now now
-unknown-done changes now none = record {
-  stands = none ∙ sym (ap (contents_after changes) none ∙ contents_after-none changes);
-  counted = counted-same now.tally;
-  blamed = λ is. absurd (true≢false (sym is));
-  left = λ is takes. go now.contents none takes;
-}
-  where
-    go : (t : Option Nodes) → t ≡ None → TakesChanges now.guaranteed t changes → IsLeft now.guaranteed now.guaranteed t changes
-    go None e takes = (omega arith, omega arith)
-    go (Some nodes) e takes = absurd cc
+unknown-done = grind (arith, common_steps, contents_after-none, counted-same)
 
 -- refusals that are counted, after calls that were not refused
 pub refused-then : (file : Option (List ℕ)) (a b c : TreeState) → Refused None a b → b.tally.exact ≡ a.tally.exact → Refused file b c

@@ -1,15 +1,16 @@
 -- No refusal of an input is one that the words alone decide; and the files that are written out of a source are the outputs of a task.
-use Rattle.uxn_task_files.proofs.Common.{Err, List, Ok, Option, Some, None, Result, [], arith, map, ℕ, ◌∷◌, ◌++◌, ◌≡◌, common_steps, map-append, Bool, true, false}
-use Rattle.uxn_task_files.proofs.Common.{outputs_of, RunTask, DebugTask, AssembleTask, DisassembleTask, Assemble, SourceFiles, output_texts, Text, text_paths, Refusal, Label, Sourced}
-use Rattle.uxn_task_files.proofs.Common.{Inquiry, Answer, and_then, gather, free_outputs, SetupView}
-unfoldable use Rattle.uxn_task_files.proofs.Common.{text_of, requested_text, source_of, program_of, symbols_of, script_of, commands_of, setup_of, machine_of}
-unfoldable use Rattle.uxn_task_files.proofs.Common.{run_of, files_of, disassembly_of, machines_in, machines_of, free_output}
+use Rattle.uxn_task_files.proofs.Common.{Err, List, Ok, Option, Some, None, Result, [], arith, map, ℕ, ◌∷◌, ◌++◌, ◌≡◌, ◌≤◌, common_steps, map-append}
+use Rattle.uxn_task_files.proofs.Common.{Bool, true, false, outputs_of, RunTask, DebugTask, AssembleTask, DisassembleTask, Assemble, SourceFiles}
+use Rattle.uxn_task_files.proofs.Common.{output_texts, Text, text_paths, Refusal, Label, Sourced, Inquiry, Answer, and_then, gather, free_outputs}
+use Rattle.uxn_task_files.proofs.Common.{SetupView, rules}
+unfoldable use Rattle.uxn_task_files.proofs.Common.{text_of, requested_text, source_of, program_of, symbols_of, script_of, commands_of, setup_of}
+unfoldable use Rattle.uxn_task_files.proofs.Common.{machine_of, run_of, files_of, disassembly_of, machines_in, machines_of, free_output}
+unfoldable use Rattle.uxn_task_files.proofs.Common.{source_inquiry}
 use Rattle.tal_assembly.specs.declared.fault.SourceFault.{SourceFault}
 use Rattle.uxn_inquiry.specs.Along.{Always}
 use Rattle.uxn_inquiry.specs.Inquiry.{Ask, unless_refused, result_as}
-unfoldable use Rattle.uxn_task_files.proofs.Common.{source_inquiry}
 use Rattle.uxn_inquiry.specs.InquiryLaws.{always-bind}
-use Rattle.uxn_task_files.specs.Statuses.{reason_of, IsOfWords}
+use Rattle.uxn_task_files.specs.Statuses.{status_of}
 use Rattle.uxn_task_files.specs.declared.inputs.InputKind.{InputKind}
 use Rattle.uxn_task_files.specs.declared.inputs.InputKind.TheVariants as kinds
 use Rattle.uxn_task_files.specs.declared.refusal.Refusal.TheVariants.{Faulty}
@@ -17,7 +18,7 @@ use Rattle.uxn_task_files.specs.declared.refusal.Refusal.TheVariants.{Faulty}
 -- a step gives a value of which this holds, or a refusal that the words alone do not decide
 abbrev pub IsOfInputs : {A : Type 0} → (A → Type 0) → Result A Refusal → Type 0
 IsOfInputs P (Ok value) = P value
-IsOfInputs P (Err refusal) = IsOfWords (reason_of refusal) → ⊥
+IsOfInputs P (Err refusal) = 130 ≤ status_of refusal
 
 -- so does an inquiry, whatever is replied
 abbrev pub AsksFor : {A : Type 0} → (A → Type 0) → Inquiry (Result A Refusal) → Type 0
@@ -55,7 +56,7 @@ requested-asked kind (Some path) = asked-then _ (text_of kind path) _ (text-aske
 
 as-given : (said : Result Sourced SourceFault) → IsOfInputs (λ value. Unit {0}) (result_as Faulty said)
 as-given (Ok source) = tt
-as-given (Err fault) = λ other. other
+as-given (Err fault) = omega arith
 
 pub source-asked : (path : List ℕ) → IsAsked (source_of path)
 unfolding source_of
@@ -85,7 +86,8 @@ machine-asked : (path : List ℕ) → IsAsked (machine_of path)
 unfolding machine_of
 machine-asked path = asked-then _ (source_of path) _ (source-asked path) (λ source. tt)
 
-gather-asked : {A P : Type 0} (ask : P → Inquiry (Result A Refusal)) (done : List A) (paths : List P) → ((path : P) → IsAsked (ask path)) → IsAsked (gather ask done paths)
+gather-asked : {A P : Type 0} (ask : P → Inquiry (Result A Refusal)) (done : List A) (paths : List P) → ((path : P) → IsAsked (ask path))
+    → IsAsked (gather ask done paths)
 gather-asked ask done [] each = tt
 gather-asked ask done (path ∷ paths) each = asked-then _ (ask path) _ (each path) (λ value. gather-asked ask (done ++ value ∷ []) paths each)
 
@@ -93,9 +95,7 @@ gather-asked ask done (path ∷ paths) each = asked-then _ (ask path) _ (each pa
 
 pub run-asked : (run : RunTask) (debug : Option DebugTask) → IsAsked (run_of run debug)
 unfolding run_of
-run-asked run debug =
-    asked-then _ _ _ (program-asked _ _) (λ program. asked-then _ _ _ (symbols-asked _) (λ labels. asked-then _ _ _ (script-asked _) (λ script.
-    asked-then _ _ _ (commands-asked _ _) (λ commands. tt))))
+run-asked = search (rules, asked-then, program-asked, symbols-asked, script-asked, commands-asked)
 
 pub disassembly-asked : (task : DisassembleTask) → IsAsked (disassembly_of task)
 unfolding disassembly_of
@@ -103,9 +103,7 @@ disassembly-asked task = asked-then _ _ _ (text-asked _ _) (λ rom. asked-then _
 
 machines-in-asked : (setup : SetupView) → IsAsked (machines_in setup)
 unfolding machines_in
-machines-in-asked setup =
-    asked-then _ (gather machine_of [] setup.sources) _ (gather-asked machine_of [] setup.sources machine-asked)
-    (λ roms. asked-then _ (script_of setup.script) _ (script-asked setup.script) (λ script. tt))
+machines-in-asked = search (rules, asked-then, gather-asked, machine-asked, script-asked)
 
 setup-asked : (path : List ℕ) → IsAsked (setup_of path)
 unfolding setup_of

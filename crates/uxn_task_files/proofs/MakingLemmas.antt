@@ -1,10 +1,10 @@
 -- Outputs that are looked at, made and written.
-use Rattle.uxn_task_files.proofs.Common.{Err, Ok, IfSome, IsSome, List, None, Option, Some, [], ap, arith, bytes_eq, false, find, inl, inr, option_map}
-use Rattle.uxn_task_files.proofs.Common.{option_to_list, refl, subst, sym, true, ℕ, ◌∙◌, ◌∷◌, ◌≡◌, common_steps, All-head, All-tail, bytes_eq-Decides, list_any}
-use Rattle.uxn_task_files.proofs.Common.{with_created, TreeEnded, TreeLooked, contents_after, Nodes, file_at, Change, TreeState}
-use Rattle.uxn_task_files.proofs.Common.{clashes, inputs_of, outputs_of, root_of, AreApart, AreFree, EndsMaking, HalfDone, IsUnmade}
-use Rattle.uxn_task_files.proofs.Common.{Made, WroteTexts, Refuses, paths_of, observed_texts, AreFiles, CanMake, Text, text_paths, with_empty, Did, creating_all, writing}
-use Rattle.uxn_task_files.proofs.Common.{Output, Gives, Inquires, free_outputs, Refusal}
+use Rattle.uxn_task_files.proofs.Common.{Err, Ok, IfSome, IsSome, List, None, Option, Some, [], arith, bytes_eq, false, find, inl, inr, option_map}
+use Rattle.uxn_task_files.proofs.Common.{option_to_list, refl, subst, sym, true, ℕ, ◌∙◌, ◌∷◌, ◌≡◌, common_steps, All-head, All-tail, bytes_eq-Decides}
+use Rattle.uxn_task_files.proofs.Common.{list_any, with_created, TreeEnded, TreeLooked, contents_after, Nodes, file_at, Change, TreeState, clashes}
+use Rattle.uxn_task_files.proofs.Common.{inputs_of, outputs_of, root_of, AreApart, AreFree, EndsMaking, HalfDone, IsUnmade, Made, WroteTexts, Refuses}
+use Rattle.uxn_task_files.proofs.Common.{paths_of, observed_texts, AreFiles, CanMake, Text, text_paths, with_empty, Did, creating_all, writing}
+use Rattle.uxn_task_files.proofs.Common.{Output, Gives, Inquires, free_outputs, Refusal, rules}
 use Rattle.uxn_inquiry.specs.declared.halt.Halt.{Halt as InquiryHalt}
 use Rattle.uxn_inquiry.specs.declared.halt.Halt.TheVariants.{Refused, TreeFault, NoMemory}
 use Rattle.uxn_inquiry.specs.GivesLaws.{inquires-gives}
@@ -38,9 +38,7 @@ made-contents (text ∷ texts) contents can = (let rest = made-contents texts (o
 pub files-made : (outputs : List Output) (before now : TreeState) → IfSome before.contents (CanMake (observed_texts outputs))
     → TreeEnded (creating_all (paths_of outputs)) false before now
     → IfSome now.contents (AreFiles (observed_texts outputs))
-files-made outputs before now can did =
-    made_files (observed_texts outputs) before.contents now.contents
-    (did.stands ∙ ap (λ ps. contents_after (creating_all ps) before.contents) (sym (observed_paths outputs)) ∙ made-contents (observed_texts outputs) before.contents can) can
+files-made = search (rules, made_files, observed_paths, made-contents)
 
 -- outputs that are not to be made, or a tree that failed
 pub looks-ended : (included paths : List (List ℕ)) (changes : List Change) (before now : TreeState) (halt : InquiryHalt Refusal)

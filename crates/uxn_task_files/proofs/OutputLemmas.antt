@@ -1,16 +1,12 @@
 -- What stands where files are appended to.
-use Rattle.uxn_task_files.proofs.Common.{Bool, IfSome, IsSome, List, None, Option, Some, [], ap, arith, cond, false, map, option_map, refl, true, ℕ, ◌∷◌}
-use Rattle.uxn_task_files.proofs.Common.{◌≡◌, common_steps, get_or-map, length-map, map-append, All-weaker, with_appended, File, Node, Nodes, bytes_of}
-use Rattle.uxn_task_files.proofs.Common.{file_at, get_put, put_other, same_or_other, paths_of, observed_texts, AreFiles, Text, Output}
+use Rattle.uxn_task_files.proofs.Common.{IfSome, IsSome, List, Option, [], ap, arith, map, option_map, refl, ℕ, ◌∷◌, ◌≡◌, common_steps, map-append}
+use Rattle.uxn_task_files.proofs.Common.{All-weaker, with_appended, File, Nodes, file_at, get_put, put_other, same_or_other, paths_of, observed_texts}
+use Rattle.uxn_task_files.proofs.Common.{AreFiles, Text, Output}
 use Rattle.std.specs.FinMap as fin
 
 -- an append leaves each file a file
 insert-file : (nodes : Nodes) (path other bytes : List ℕ) → IsSome (file_at nodes other) → IsSome (file_at (fin.insert nodes path (File bytes)) other)
-insert-file nodes path other bytes h =
-    let there = get_put nodes path (File bytes) in
-    let elsewhere = put_other nodes path other (File bytes) in
-    let two = same_or_other other path in
-    grind (arith, common_steps, there, elsewhere, two)
+insert-file = grind (arith, common_steps, get_put, put_other, same_or_other)
 
 appended-file : (nodes : Nodes) (path other bytes : List ℕ) → IsSome (file_at nodes other) → IsSome (file_at (with_appended path bytes nodes) other)
 appended-file nodes path other bytes h = grind (arith, common_steps, insert-file)

@@ -73,8 +73,4 @@ clash_from inputs places path few input = grind (arith, nat_tests, common_steps)
 -- outputs that do not clash with more places do not with fewer
 pub no_clash-fewer : (inputs more places paths : List (List ℕ)) → find (clashes inputs (more ++ places)) paths ≡ None
     → find (clashes inputs places) paths ≡ None
-no_clash-fewer inputs more places paths =
-    none_each (clashes inputs (more ++ places)) (clashes inputs places) paths
-    (λ path apart.
-    let both = clash_parts inputs (more ++ places) path apart in
-    clash_from inputs places path (omega (arith, both.0, count-parts (meets path) more places)) both.1)
+no_clash-fewer = grind (arith, common_steps, none_each, clash_parts, clash_from, count-parts)

@@ -1,6 +1,7 @@
 -- What is asked for each input of a task, and what it says; then for all of them, in the order of work: the first that is not accepted
 -- counts, and nothing is asked behind it.
-use Rattle.std.specs.Prelude.{ℕ, Bool, true, false, not, ◌&&◌, if◌then◌else◌, List, [], ◌∷◌, ◌++◌, Option, Some, None, option_map, option_and_then, unwrap_or}
+use Rattle.std.specs.Prelude.{ℕ, Bool, true, false, not, ◌&&◌, if◌then◌else◌, List, [], ◌∷◌}
+use Rattle.std.specs.Prelude.{◌++◌, Option, Some, None, option_map, option_and_then, unwrap_or}
 use Rattle.std.specs.Prelude.{Result, Ok, Err}
 use Rattle.std.specs.List.{list_any}
 use Rattle.std.specs.Str.{bytes_eq}
@@ -8,7 +9,6 @@ use Rattle.debug_commands.specs.declared.command.DebugCommand.{DebugCommand}
 use Rattle.debug_commands.specs.Reading.{commands_of_text}
 use Rattle.play_script.specs.declared.script.ScriptKind.{ScriptKind}
 use Rattle.play_script.specs.Scripts.{ScriptView, script_of as script_in}
-use Rattle.setup_lines.specs.declared.setup.SetupKind.{SetupKind}
 use Rattle.setup_lines.specs.Setups.{SetupView, setup_of as setup_in}
 use Rattle.tal_listing.specs.Disassembly.{disassembly}
 use Rattle.tal_listing.specs.Listing.{listing_of}
@@ -82,24 +82,17 @@ unfoldable pub commands_of : List Label → Option (List ℕ) → Inquiry (Resul
 commands_of labels path = and_then (requested_text kinds.Commands path) (λ text. Answer (said_commands labels text))
 
 -- a setup that has no fault (139)
-abbrev pub validated_setup : Result SetupView (ℕ × SetupKind) → Result SetupView Refusal
-validated_setup said = result_as (λ fault. BadSetup fault.0 fault.1) said
+abbrev pub said_setup : List ℕ → Result SetupView Refusal
+said_setup text = result_as (λ fault. BadSetup fault.0 fault.1) (setup_in text)
 
 unfoldable pub setup_of : List ℕ → Inquiry (Result SetupView Refusal)
-setup_of path = and_then (text_of kinds.Setup path) (λ text. Answer (validated_setup (setup_in text)))
+setup_of path = and_then (text_of kinds.Setup path) (λ text. Answer (said_setup text))
 
 -- the ROM of a machine's source
 unfoldable pub machine_of : List ℕ → Inquiry (Result (List ℕ) Refusal)
 machine_of path = and_then (source_of path) (λ source. Answer (Ok (rom_of source.text)))
 
 -- ---- the inputs of each command, in the order of work
-
--- the symbol file and the commands are inputs of a debugger
-abbrev pub symbols_input : Option DebugTask → Option (List ℕ)
-symbols_input debug = option_and_then (λ debug. debug.symbols) debug
-
-abbrev pub commands_input : Option DebugTask → Option (List ℕ)
-commands_input debug = option_map (λ debug. debug.commands) debug
 
 -- what a run is given: its program, the labels of a symbol file where one is given, its script, and the commands of a debugger
 pub record GivenInputs : Type 0 where
@@ -116,9 +109,9 @@ debug_labels given program = unwrap_or given program.labels
 unfoldable pub run_of : RunTask → Option DebugTask → Inquiry (Result GivenInputs Refusal)
 run_of run debug =
     and_then (program_of run.rom run.file) (λ program.
-    and_then (symbols_of (symbols_input debug)) (λ labels.
+    and_then (symbols_of (option_and_then (λ debug. debug.symbols) debug)) (λ labels.
     and_then (script_of run.script) (λ script.
-    and_then (commands_of (debug_labels labels program) (commands_input debug)) (λ commands.
+    and_then (commands_of (debug_labels labels program) (option_map (λ debug. debug.commands) debug)) (λ commands.
     Answer (Ok (record { program = program; labels = labels; script = script; commands = commands }))))))
 
 -- `asm`: a source's ROM, symbols and listing, in the files that are requested; with the files that it includes

@@ -5,6 +5,7 @@ use Rattle.play_script.specs.declared.script.ScriptKind.TheVariants.{LongScript}
 use Rattle.setup_lines.specs.declared.setup.SetupKind.TheVariants.{LongSetup}
 use Rattle.tal_include.specs.declared.faults.IncludeKind.TheVariants.{Words}
 use Rattle.tal_rom.specs.Rom.{rom_limit}
+use Rattle.uxn_limits.specs.declared.limits.TheConstants.{TEXT_LIMIT, SYMBOLS_LIMIT}
 use Rattle.tal_assembly.specs.declared.fault.SourceFault.{SourceFault}
 use Rattle.tal_symbols.specs.declared.stop.SymbolKind.TheVariants.{Long}
 use Rattle.tal_words.specs.declared.fault.FaultKind.TheVariants.{LongSource}
@@ -20,13 +21,10 @@ use Rattle.uxn_task_files.specs.declared.refusal.Refusal.TheVariants.{Missing, F
 
 -- no more bytes of a file are read: all banks are filled by a ROM that is run, bank 0 by one that is disassembled
 abbrev pub limit_of : InputKind → ℕ
-limit_of kinds.Source = 4194304
 limit_of kinds.Rom = largest_rom
 limit_of kinds.BankRom = rom_limit
-limit_of kinds.Symbols = 16777216
-limit_of kinds.Script = 4194304
-limit_of kinds.Commands = 4194304
-limit_of kinds.Setup = 4194304
+limit_of kinds.Symbols = SYMBOLS_LIMIT
+limit_of _ = TEXT_LIMIT
 
 -- a source that is too long has its fault at its first word, as the empty word
 abbrev pub too_long : SourceFault

@@ -1,8 +1,8 @@
 -- Files that are made and filled, as changes in order.
 use Rattle.std.specs.Prelude.{ℕ, Bool, List, ◌++◌, map, Option}
 use Rattle.std.specs.List.{flat_map}
-use Rattle.uxn_io_traits.specs.Ended.{TreeEnded, Refused}
-use Rattle.uxn_io_traits.specs.Outside.{Change, Creates, ToFile}
+use Rattle.uxn_io_traits.specs.Ended.{TreeEnded, Refused, appending}
+use Rattle.uxn_io_traits.specs.Outside.{Change, Creates}
 use Rattle.uxn_io_traits.specs.State.{TreeState}
 use Rattle.uxn_task_files.specs.World.{Text}
 
@@ -10,12 +10,9 @@ use Rattle.uxn_task_files.specs.World.{Text}
 abbrev pub creating_all : List (List ℕ) → List Change
 creating_all paths = map (λ path. Creates path) paths
 
--- a file gets its bytes, and files theirs, in order
-abbrev pub filling : Text → List Change
-filling text = map (λ byte. ToFile text.path byte) text.bytes
-
+-- files get their bytes, in order
 abbrev pub filling_all : List Text → List Change
-filling_all texts = flat_map filling texts
+filling_all texts = flat_map (λ (text : Text). appending text.path text.bytes) texts
 
 -- files are written: all are made, and then they get their bytes
 unfoldable pub writing : List Text → List Change

@@ -45,7 +45,8 @@ fn push_symbols(
     path: &Option<Path>,
     assembly: &Assembly,
 ) -> Result<(), AllocError>
-    ensures { OnOk result (observed_texts outputs.new.items ≡ observed_texts outputs.old.items ++ requested_output path.now (symbol_file assembly.now.labels)) }
+    ensures { OnOk result (observed_texts outputs.new.items
+        ≡ observed_texts outputs.old.items ++ requested_output path.now (symbol_file assembly.now.labels)) }
 {
     if let Some(path) = path {
         let bytes = write_symbols(alloc, assembly.labels())?;
@@ -63,7 +64,8 @@ fn push_listing(
     source: &AssembledSource,
 ) -> Result<(), AllocError>
     requires { IsAssembled source.now.text (Ok source.now.assembly) }
-    ensures { OnOk result (observed_texts outputs.new.items ≡ observed_texts outputs.old.items ++ requested_output path.now (listing_of source.now.text source.now.assembly)) }
+    ensures { OnOk result (observed_texts outputs.new.items
+        ≡ observed_texts outputs.old.items ++ requested_output path.now (listing_of source.now.text source.now.assembly)) }
 {
     if let Some(path) = path {
         let bytes = listing(alloc, source.text(), source.assembly())?;
@@ -113,7 +115,8 @@ pub fn assemble<T: Tree>(
 /// Writes the files that were requested.
 pub fn write_outputs<T: Tree>(written: &Written, tree: &mut T) -> Result<(), Halt>
     requires { AreApart (paths_of written.now.outputs.items) }
-    ensures { WritesOutputs written.now.source.paths (paths_of written.now.outputs.items) (observed_texts written.now.outputs.items) (T.state tree.old) (T.state tree.new) result }
+    ensures { WritesOutputs written.now.source.paths (paths_of written.now.outputs.items) (observed_texts written.now.outputs.items)
+        (T.state tree.old) (T.state tree.new) result }
 {
     look_at(written.source.paths(), &written.outputs, tree)?;
     match write_all(tree, &written.outputs)? {

@@ -14,7 +14,7 @@ use tal_symbols::SymbolKind;
 use tal_words::FaultKind;
 use uxn_inquiry::{Halt, read_whole};
 use uxn_io_traits::{Bytes, FileBytes, Path, Tree};
-use uxn_memory::LARGEST_ROM;
+use uxn_limits::limits;
 
 /// What a file is read as.
 #[derive(Clone, Copy)]
@@ -41,13 +41,12 @@ impl InputKind {
         ensures { result ≡ limit_of self }
     {
         match self {
-            InputKind::Source => 4_194_304,
-            InputKind::Rom => LARGEST_ROM as u32,
-            InputKind::BankRom => 65_280,
-            InputKind::Symbols => 16_777_216,
-            InputKind::Script => 4_194_304,
-            InputKind::Commands => 4_194_304,
-            InputKind::Setup => 4_194_304,
+            InputKind::Rom => limits::LARGEST_ROM as u32,
+            InputKind::BankRom => limits::BANK_ROM_LIMIT as u32,
+            InputKind::Symbols => limits::SYMBOLS_LIMIT as u32,
+            InputKind::Source | InputKind::Script | InputKind::Commands | InputKind::Setup => {
+                limits::TEXT_LIMIT as u32
+            }
         }
     }
 

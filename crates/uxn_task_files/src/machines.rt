@@ -3,10 +3,9 @@ ghost use Rattle.std.specs.Prelude.{[], ◌≡◌, ◌≤◌, length, IfOk};
 ghost use Rattle.std.specs.List.{All};
 ghost use Rattle.uxn_memory.specs.Bytes.{largest_rom};
 ghost use Rattle.play_script.specs.Held.{bytes_in};
-ghost use Rattle.setup_lines.specs.Setups.{setup_of as setup_in};
 ghost use Rattle.uxn_inquiry.specs.Inquires.{Inquires, Says};
 ghost use Rattle.uxn_inquiry.specs.Inquiry.{gather};
-ghost use Rattle.uxn_task_files.specs.Accepted.{machine_of, machines_in, machines_of, setup_of, validated_setup};
+ghost use Rattle.uxn_task_files.specs.Accepted.{machine_of, machines_in, machines_of, said_setup, setup_of};
 ghost use Rattle.uxn_task_files.specs.Held.{AreMachines, model_of_machines};
 
 use super::inputs::{InputKind, read_text};
@@ -32,7 +31,7 @@ pub struct LineInputs {
 
 /// The setup of a text.
 fn validate_setup(alloc: Global, text: &[u8]) -> Result<Setup, Halt<Refusal>>
-    ensures { Says (λ setup. setup) (validated_setup (setup_in text.now)) result }
+    ensures { Says (λ setup. setup) (said_setup text.now) result }
 {
     match read_setup(alloc, text) {
         Ok(setup) => Ok(setup),

@@ -1,8 +1,8 @@
 //! What `play` and `debug` are given.
-ghost use Rattle.std.specs.Prelude.{◌≡◌, ◌≤◌, length, IfOk};
+ghost use Rattle.std.specs.Prelude.{◌≡◌, ◌≤◌, length, option_and_then, option_map, IfOk};
 ghost use Rattle.uxn_memory.specs.Bytes.{largest_rom};
 ghost use Rattle.uxn_inquiry.specs.Inquires.{Inquires};
-ghost use Rattle.uxn_task_files.specs.Accepted.{commands_input, run_of, symbols_input};
+ghost use Rattle.uxn_task_files.specs.Accepted.{run_of};
 ghost use Rattle.uxn_task_files.specs.Held.{model_of_debug_labels, model_of_inputs, model_of_program};
 
 use super::commands::accept_commands;
@@ -20,7 +20,7 @@ use uxn_io_traits::{Path, Tree};
 
 /// The file of symbols that a debugger is given.
 fn symbols_input(debug: &Option<DebugTask>) -> Option<Path>
-    ensures { result ≡ symbols_input debug.now }
+    ensures { result ≡ option_and_then (λ debug. debug.symbols) debug.now }
 {
     match debug {
         Some(debug) => debug.symbols,
@@ -30,7 +30,7 @@ fn symbols_input(debug: &Option<DebugTask>) -> Option<Path>
 
 /// The file of commands that a debugger is given.
 fn commands_input(debug: &Option<DebugTask>) -> Option<Path>
-    ensures { result ≡ commands_input debug.now }
+    ensures { result ≡ option_map (λ debug. debug.commands) debug.now }
 {
     match debug {
         Some(debug) => Some(debug.commands),

@@ -1,16 +1,31 @@
 //! Sources that are read.
 ghost use Rattle.std.specs.Prelude.{◌≡◌, Ok, IfOk};
 ghost use Rattle.tal_rom.specs.Assembly.{IsAssembled};
-ghost use Rattle.uxn_inquiry.specs.Inquires.{Inquires};
+ghost use Rattle.uxn_inquiry.specs.Inquires.{Inquires, halted_as};
+ghost use Rattle.uxn_task_files.specs.declared.refusal.Refusal.TheVariants.{Faulty};
 ghost use Rattle.uxn_task_files.specs.Accepted.{source_of};
 ghost use Rattle.tal_assembly.specs.Sources.{sourced_of};
 
 use super::inputs::{InputKind, read_text};
 use super::refusal::Refusal;
 use std::alloc::Global;
-use tal_assembly::{AssembledSource, read_source};
+use tal_assembly::{AssembledSource, SourceFault, read_source};
 use uxn_inquiry::Halt;
 use uxn_io_traits::{Path, Tree};
+
+/// A source, or the refusal of its first fault.
+fn as_faulty(
+    said: Result<AssembledSource, Halt<SourceFault>>,
+) -> Result<AssembledSource, Halt<Refusal>>
+    ensures { result ≡ halted_as Faulty said }
+{
+    match said {
+        Ok(source) => Ok(source),
+        Err(Halt::Refused(fault)) => Err(Halt::Refused(Refusal::Faulty(fault))),
+        Err(Halt::TreeFault) => Err(Halt::TreeFault),
+        Err(Halt::NoMemory) => Err(Halt::NoMemory),
+    }
+}
 
 /// The source at a path with the files that it includes, unless no file is there or there is a fault.
 pub fn accept_source<T: Tree>(
@@ -22,10 +37,5 @@ pub fn accept_source<T: Tree>(
     ensures assembled { IfOk result (λ source. IsAssembled source.text (Ok source.assembly)) }
 {
     let text = read_text(alloc, InputKind::Source, path, tree)?;
-    match read_source(alloc, tree, path, text) {
-        Ok(source) => Ok(source),
-        Err(Halt::Refused(fault)) => Err(Halt::Refused(Refusal::Faulty(fault))),
-        Err(Halt::TreeFault) => Err(Halt::TreeFault),
-        Err(Halt::NoMemory) => Err(Halt::NoMemory),
-    }
+    as_faulty(read_source(alloc, tree, path, text))
 }

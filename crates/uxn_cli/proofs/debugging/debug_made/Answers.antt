@@ -14,12 +14,16 @@ write_text-requires g c = stays-if c.args.task.now.root (Some c.args.debug.now.l
 
 pub returns-clause-runs : goal.returns-clause-runs
 returns-clause-runs g c = λ commands labels new.
-    let kept = kept-log c.the_log_is_that_of_the_run.ensures c.the_moments_of_a_run_are_counted.ensures c.the_moments_of_a_run_are_in_a_row.ensures c.args.task.now c.args.machine
+    let kept = kept-log c.the_log_is_that_of_the_run.ensures c.the_moments_of_a_run_are_counted.ensures c.the_moments_of_a_run_are_in_a_row.ensures
+    c.args.task.now c.args.machine
     c.core_known.ensures c.args.debug.now commands labels _ _ new in
-    rw (c.or.ensures, c.and.ensures) (runs-then _ _ _ _ _ (Some c.args.debug.now.log) _ (log_text (debugging c.args.debug.now commands labels)) _ _ c.in_ok-end.end
-    (runs-as _ _ _ _ _ _ _ _ _ (λ trace. refl) (λ watched. refl) c.in_ok-end.ensures.runs) (λ root_view root files. c.log.ensures ∙ kept root_view (c.in_ok-end.ensures.watcher root_view root files))
+    rw (c.or.ensures, c.and.ensures)
+    (runs-then _ _ _ _ _ (Some c.args.debug.now.log) _ (log_text (debugging c.args.debug.now commands labels)) _ _ c.in_ok-end.end
+    (runs-as _ _ _ _ _ _ _ _ _ (λ trace. refl) (λ watched. refl) c.in_ok-end.ensures.runs)
+    (λ root_view root files. c.log.ensures ∙ kept root_view (c.in_ok-end.ensures.watcher root_view root files))
     c.write_text.result
-    (outside-of-tree _ (is_err c.write_text.result) _ _ (g.O.Sink.state c.run_made.new.host.out.now) (g.E.Sink.state c.run_made.new.host.err.now) (filled-of-tree (requested_output (Some c.args.debug.now.log) c.log.result.now)) c.write_text.ensures.ended))
+    (outside-of-tree _ (is_err c.write_text.result) _ _ (g.O.Sink.state c.run_made.new.host.out.now) (g.E.Sink.state c.run_made.new.host.err.now)
+    (filled-of-tree (requested_output (Some c.args.debug.now.log) c.log.result.now)) c.write_text.ensures.ended))
 
 pub returns-clause-refusals : goal.returns-clause-refusals
 returns-clause-refusals g c = λ none. refuses-then _ _ _ (c.in_ok-end.ensures.refusals none) c.write_text.ensures.refused

@@ -1,6 +1,7 @@
 use Rattle.uxn_cli.proofs.Common.{rules}
 use Rattle.uxn_cli.proofs.RefusalLemmas.{passes-as}
-use Rattle.uxn_cli.proofs.ClauseLemmas.{has_statuses}
+use Rattle.uxn_cli.proofs.ClauseLemmas.{has_statuses, ends_early}
+use Rattle.uxn_cli.proofs.PrefixLemmas.{is_cut_short}
 use Rattle.uxn_cli.proofs.IsolationLemmas.{gives_the_same}
 use Rattle.uxn_cli.proofs.OthersLemmas.{leaves_the_rest}
 use Rattle.uxn_cli.proofs.entry.uxn.Goals as goal
@@ -11,9 +12,16 @@ returns-clause-rest g c = let fact = leaves_the_rest _ c.status_of.ensures.comes
 pub returns-clause-statuses : goal.returns-clause-statuses
 returns-clause-statuses g c = let fact = has_statuses _ c.status_of.ensures.comes in search (rules, fact)
 
+pub returns-clause-early : goal.returns-clause-early
+returns-clause-early g c = let fact = ends_early _ c.status_of.ensures.comes in search (rules, fact)
+
+pub returns-clause-cut_off : goal.returns-clause-cut_off
+returns-clause-cut_off g c = let fact = is_cut_short _ c.status_of.ensures.comes in search (rules, fact)
+
 pub returns-clause-same : goal.returns-clause-same
 returns-clause-same g c = let fact = gives_the_same _ c.status_of.ensures.comes in search (rules, fact)
 
 -- no call of `create` that was refused is ignored
 pub returns-clause-refusals : goal.returns-clause-refusals
-returns-clause-refusals g c = passes-as g.T.Tree.state g.E.Sink.state _ (g.T.Tree.state c.args.tree.now) _ _ (g.E.Sink.state c.args.err.now) _ _ _ (search rules) (search rules) c.status_of.ensures.refusals
+returns-clause-refusals g c = passes-as g.T.Tree.state g.E.Sink.state _ (g.T.Tree.state c.args.tree.now) _ _ (g.E.Sink.state c.args.err.now) _ _ _
+    (search rules) (search rules) c.status_of.ensures.refusals

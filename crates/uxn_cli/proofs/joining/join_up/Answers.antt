@@ -1,7 +1,6 @@
-use Rattle.uxn_cli.proofs.Common.{◌≡◌, sym, ◌∙◌, true, false, rules, Ok, Err, model_of_machines}
+use Rattle.uxn_cli.proofs.Common.{◌≡◌, sym, ◌∙◌, true, false, rules, refl, Ok, Err}
 unfoldable use Rattle.uxn_cli.proofs.Common.{line_plan_of}
 use Rattle.uxn_inquiry.specs.Laws.{inquires-stop, inquires-last}
-use Rattle.uxn_cli.proofs.JoiningLemmas.{line-denied, line-accepted}
 use Rattle.uxn_cli.proofs.joining.join_up.Goals as goal
 
 pub returns-in_err-inputs-clause-joins : goal.returns-in_err-inputs-clause-joins
@@ -14,12 +13,12 @@ pub returns-then-not-are_of_console-clause-joins : goal.returns-then-not-are_of_
 unfolding line_plan_of
 returns-then-not-are_of_console-clause-joins g c =
     let no : c.are_of_console.result ≡ false = search rules in
-    inquires-last _ _ _ _ _ _ _ _ c.in_ok-inputs.ensures.reads
-    (line-denied (model_of_machines c.in_ok-inputs.inputs) (rw c.events.ensures at (sym c.are_of_console.ensures ∙ no)))
+    let other = rw c.events.ensures at (sym c.are_of_console.ensures ∙ no) in
+    inquires-last _ _ _ _ _ _ _ _ c.in_ok-inputs.ensures.reads (rw other refl)
 
 pub returns-clause-joins : goal.returns-clause-joins
 unfolding line_plan_of
 returns-clause-joins g c =
     let is : c.are_of_console.result ≡ true = search rules in
-    inquires-last _ _ _ _ _ _ _ (Ok c.in_ok-inputs.inputs) c.in_ok-inputs.ensures.reads
-    (line-accepted (model_of_machines c.in_ok-inputs.inputs) (rw c.events.ensures at (sym c.are_of_console.ensures ∙ is)))
+    let of = rw c.events.ensures at (sym c.are_of_console.ensures ∙ is) in
+    inquires-last _ _ _ _ _ _ _ (Ok c.in_ok-inputs.inputs) c.in_ok-inputs.ensures.reads (rw of refl)

@@ -1,6 +1,17 @@
-use Rattle.uxn_cli.proofs.Common.{◌≡◌, rules, Err}
-use Rattle.uxn_cli.proofs.JoiningLemmas.{done-after}
+use Rattle.uxn_cli.proofs.Common.{◌≡◌, ℕ, rules, false, Result, Ok, Err, IfOk, is_err, SinkEnded, SinkState, Failed, IsUnderWay}
+use Rattle.uxn_cli.proofs.Common.{LineGoesOn, LineHasDone, line_bytes, line_exit}
+use Rattle.uxn_line.specs.declared.line.Line.{Line as LineOf}
+use Rattle.uxn_line.specs.Streams.{LineJob}
 use Rattle.uxn_cli.proofs.joining.run_all.Goals as goal
+
+-- what is done behind turns
+done-after : (line line_now : LineOf) (out out_now out_end : SinkState) (result : Result ℕ Failed) → LineGoesOn line out line_now out_now false
+    → ((job : LineJob) (begun : SinkState) → IsUnderWay job begun line_now out_now → SinkEnded (line_bytes job) (is_err result) begun out_end)
+    → IfOk result (λ code. (job : LineJob) (begun : SinkState) → IsUnderWay job begun line_now out_now → code ≡ line_exit job)
+    → LineHasDone line out out_end result
+done-after line line_now out out_now out_end (Ok code) goes put is =
+    λ job begun under. (put job begun (goes job begun under), is job begun (goes job begun under))
+done-after line line_now out out_now out_end (Err failed) goes put is = λ job begun under. (put job begun (goes job begun under), tt)
 
 pub returns-in_err-follow : goal.returns-in_err-follow
 returns-in_err-follow g c =

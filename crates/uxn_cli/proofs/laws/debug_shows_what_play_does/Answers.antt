@@ -1,5 +1,5 @@
-use Rattle.uxn_cli.proofs.ObservationLemmas.{shows-what-play-does}
+use Rattle.uxn_cli.proofs.ObservationLemmas.{shows_what_play_does}
 use Rattle.uxn_cli.proofs.laws.debug_shows_what_play_does.Goals as goal
 
 pub returns : goal.returns
-returns c = shows-what-play-does
+returns c = shows_what_play_does

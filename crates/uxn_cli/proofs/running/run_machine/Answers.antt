@@ -1,10 +1,12 @@
 use Rattle.uxn_cli.proofs.Common.{contents_on, ◌≡◌, ◌∙◌, refl, ap, rules, arith, Err, false, exit_code_of, first_devices, reference_trace}
+use Rattle.uxn_cli.proofs.Common.{common_steps}
 use Rattle.std.specs.FinMap as fin
 use Rattle.uxn_cli.proofs.RunLemmas.{at-start}
 use Rattle.uxn_cli.proofs.running.run_machine.Goals as goal
 
 pub run_script-requires-clause-frames : goal.run_script-requires-clause-frames
-run_script-requires-clause-frames g c = ap (λ devices. devices.time.frames) c.new-bus.ensures.devices_now ∙ (c.requires.devices fin.empty false).frames
+run_script-requires-clause-frames g c = ap (λ devices. devices.time.frames) c.new-bus.ensures.devices_now
+    ∙ (c.requires.devices fin.empty false).frames
 
 pub returns-clause-runs : goal.returns-clause-runs
 unfolding reference_trace
@@ -15,7 +17,8 @@ returns-clause-runs g c =
     record {
       from = λ root_view root files.
           let machine = c.args.machine.now in
-          let stands = at-start (contents_on g.T.Tree) c.new-bus.result machine.devices c.args.host.now.tree.now machine.script root_view devices c.new-bus.ensures.tree_now root c.requires.devices files in
+          let stands = at-start (contents_on g.T.Tree) c.new-bus.result _ _ machine.script root_view devices c.new-bus.ensures.tree_now root
+          c.requires.devices files in
           let ends = c.in_ok-tally.ensures.ok.from (first_devices machine.script root_view) stands in
           let w = ends.makes.world in
           let r = ends.makes.remains in
@@ -34,8 +37,8 @@ pub returns-clause-watcher : goal.returns-clause-watcher
 unfolding reference_trace
 returns-clause-watcher g c = λ root_view root files.
     let machine = c.args.machine.now in
-    let stands = at-start (contents_on g.T.Tree) c.new-bus.result machine.devices c.args.host.now.tree.now machine.script root_view
-    c.new-bus.ensures.devices_now c.new-bus.ensures.tree_now root c.requires.devices files in
+    let stands = at-start (contents_on g.T.Tree) c.new-bus.result _ _ machine.script root_view c.new-bus.ensures.devices_now
+    c.new-bus.ensures.tree_now root c.requires.devices files in
     (c.in_ok-tally.ensures.ok.from (first_devices machine.script root_view) stands).watcher
 
 pub returns-in_err-tally-clause-runs : goal.returns-in_err-tally-clause-runs
@@ -48,7 +51,8 @@ returns-in_err-tally-clause-runs g c =
     rw result (record {
       from = λ root_view root files.
           let machine = c.args.machine.now in
-          let stands = at-start (contents_on g.T.Tree) c.new-bus.result machine.devices c.args.host.now.tree.now machine.script root_view devices c.new-bus.ensures.tree_now root c.requires.devices files in
+          let stands = at-start (contents_on g.T.Tree) c.new-bus.result _ _ machine.script root_view devices c.new-bus.ensures.tree_now root
+          c.requires.devices files in
           let short = c.in_err-tally.ensures.err.from (first_devices machine.script root_view) stands in
           let cut = short.made.cut in
           let not_guaranteed = short.made.not_guaranteed in
@@ -65,11 +69,7 @@ returns-in_err-tally-clause-runs g c =
 
 -- without a root no file was refused
 pub returns-clause-refusals : goal.returns-clause-refusals
-returns-clause-refusals g c = λ none.
-    let devices = c.new-bus.ensures.devices_now in
-    let refusals = c.in_ok-tally.ensures.refusals (ap (λ devices. devices.root) devices ∙ none) in search (rules, refusals)
+returns-clause-refusals g c = grind (arith, common_steps)
 
 pub returns-in_err-tally-clause-refusals : goal.returns-in_err-tally-clause-refusals
-returns-in_err-tally-clause-refusals g c = λ none.
-    let devices = c.new-bus.ensures.devices_now in
-    let refusals = c.in_err-tally.ensures.refusals (ap (λ devices. devices.root) devices ∙ none) in search (rules, refusals)
+returns-in_err-tally-clause-refusals g c = grind (arith, common_steps)

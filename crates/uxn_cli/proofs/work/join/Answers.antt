@@ -13,5 +13,5 @@ pub returns-clause-does : goal.returns-clause-does
 returns-clause-does g c =
     let task = tasks.Line c.args.path.now in
     does-behind joined_plan task _ _ _ _ _ _ c.in_ok-joined.joined c.in_ok-joined.ensures.joins
-    (does-puts task _ _ _ _ _ (accepted-after joined_plan task _ _ c.in_ok-joined.joined c.in_ok-joined.ensures.joins) _ _ refl refl tt
-    (λ cut. record { cut = cut.cut; short = λ text. cut.short }) (λ fits. fits) c.run_line.result c.run_line.ensures)
+    (does-puts task _ _ _ _ _ (accepted-after joined_plan task _ _ c.in_ok-joined.joined c.in_ok-joined.ensures.joins) _ _ refl refl
+    (λ rest some. (refl, some)) c.run_line.result c.run_line.ensures)

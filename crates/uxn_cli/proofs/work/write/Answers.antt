@@ -1,4 +1,4 @@
-use Rattle.uxn_cli.proofs.Common.{◌≡◌, rules, Ok, Err, refl, sym, ◌∙◌, subst, WritesOutputs, model_of_files, write_plan}
+use Rattle.uxn_cli.proofs.Common.{◌≡◌, rules, Ok, Err, refl, sym, ◌∙◌, subst, WritesOutputs, Plan, planned, Write}
 use Rattle.uxn_arguments.specs.declared.task.Task.TheVariants as tasks
 use Rattle.uxn_inquiry.specs.Laws.{inquires-stop, inquires-last}
 use Rattle.uxn_task_files.proofs.OutputLemmas.{observed_paths}
@@ -10,24 +10,31 @@ use Rattle.uxn_cli.proofs.WorkLemmas.{halted-unready, accepted-after, does-behin
 use Rattle.uxn_cli.proofs.WriteLemmas.{does-write}
 use Rattle.uxn_cli.proofs.work.write.Goals as goal
 
+-- the files that are written out of a source
+abbrev plan_of_written : Written → Plan
+plan_of_written written = planned (Write (observed_texts written.outputs.items)) written.source.paths
+
 pub returns-in_err-written-clause-does : goal.returns-in_err-written-clause-does
 returns-in_err-written-clause-does g c =
     let result : c.from_residual.result ≡ Err (halt_of_inquiry c.in_err-written.field-0.0) = search rules in
-    rw result (halted-unready (λ (written : Written). write_plan (model_of_files written)) (tasks.Assemble c.args.task.now) _ _ _ _ c.in_err-written.field-0.0
+    rw result (halted-unready plan_of_written (tasks.Assemble c.args.task.now) _ _ _ _ c.in_err-written.field-0.0
     (inquires-stop _ _ _ _ _ _ _ c.in_err-written.ensures))
 
 pub write_outputs-requires : goal.write_outputs-requires
 write_outputs-requires g c =
     let task = tasks.Assemble c.args.task.now in
-    let planned = accepted-after (λ (written : Written). write_plan (model_of_files written)) task _ _ c.in_ok-written.written (inquires-last _ _ _ _ _ _ _ _ c.in_ok-written.ensures refl) in
-    record { task = task; apart = c.requires.apart; outputs = sym (plan-outputs _ task _ planned ∙ observed_paths c.in_ok-written.written.outputs.items) }
+    let written = c.in_ok-written.written in
+    let accepted = accepted-after plan_of_written task _ _ written (inquires-last _ _ _ _ _ _ _ _ c.in_ok-written.ensures refl) in
+    record { task = task; apart = c.requires.apart; outputs = sym (plan-outputs _ task _ accepted ∙ observed_paths written.outputs.items) }
 
 pub returns-clause-does : goal.returns-clause-does
 returns-clause-does g c =
     let task = tasks.Assemble c.args.task.now in
     let written = c.in_ok-written.written in
-    let asks = inquires-last _ (λ (written : Written). write_plan (model_of_files written)) _ (λ files. Ok (write_plan files)) _ _ written (Ok written) c.in_ok-written.ensures refl in
-    let planned = accepted-after _ task _ _ written asks in
-    let wrote = subst (λ paths. WritesOutputs written.source.paths paths (observed_texts written.outputs.items) (g.T.Tree.state c.assemble.new.tree) (g.T.Tree.state c.write_outputs.new.tree) c.write_outputs.result)
-    (sym (plan-outputs _ task _ planned ∙ observed_paths written.outputs.items)) c.write_outputs.ensures in
-    rw c.and.ensures (does-behind _ task _ _ _ _ _ _ written asks (does-write task _ _ _ _ (observed_texts written.outputs.items) written.source.paths planned c.write_outputs.result wrote))
+    let asks = inquires-last _ plan_of_written _ _ _ _ written (Ok written) c.in_ok-written.ensures refl in
+    let accepted = accepted-after _ task _ _ written asks in
+    let wrote = subst (λ paths. WritesOutputs written.source.paths paths (observed_texts written.outputs.items) (g.T.Tree.state c.assemble.new.tree)
+    (g.T.Tree.state c.write_outputs.new.tree) c.write_outputs.result)
+    (sym (plan-outputs _ task _ accepted ∙ observed_paths written.outputs.items)) c.write_outputs.ensures in
+    rw c.and.ensures (does-behind _ task _ _ _ _ _ _ written asks
+    (does-write task _ _ _ _ (observed_texts written.outputs.items) written.source.paths accepted c.write_outputs.result wrote))

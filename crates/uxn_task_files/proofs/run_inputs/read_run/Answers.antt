@@ -10,7 +10,8 @@ returns-in_err-program-clause-reads g c = step-stop _ _ _ _ _ _ _ _ (search rule
 pub returns-in_err-given-clause-reads : goal.returns-in_err-given-clause-reads
 unfolding run_of
 returns-in_err-given-clause-reads g c =
-    step-more _ _ _ _ _ _ _ _ _ c.in_ok-program.ensures.loads (step-stop _ _ _ _ _ _ _ _ (search rules) (rw c.symbols_input.ensures at c.in_err-given.ensures))
+    step-more _ _ _ _ _ _ _ _ _ c.in_ok-program.ensures.loads
+    (step-stop _ _ _ _ _ _ _ _ (search rules) (rw c.symbols_input.ensures at c.in_err-given.ensures))
 
 pub returns-in_err-script-clause-reads : goal.returns-in_err-script-clause-reads
 unfolding run_of

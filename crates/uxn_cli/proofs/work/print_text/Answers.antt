@@ -1,0 +1,13 @@
+use Rattle.uxn_cli.proofs.Common.{◌≡◌, rules, Err, printed_plan}
+use Rattle.uxn_task_files.specs.Blame.{halt_of_inquiry}
+use Rattle.uxn_cli.proofs.WorkLemmas.{halted-unready, does-prints}
+use Rattle.uxn_cli.proofs.work.print_text.Goals as goal
+
+pub returns-in_err-text-clause-does : goal.returns-in_err-text-clause-does
+returns-in_err-text-clause-does g c = λ task start asks.
+    let result : c.from_residual.result ≡ Err (halt_of_inquiry c.in_err-text.field-0.0) = search rules in
+    rw result (halted-unready printed_plan task start _ _ _ _ (rw c.in_err-text.was at asks))
+
+pub returns-clause-does : goal.returns-clause-does
+returns-clause-does g c = λ task start asks.
+    does-prints task start _ _ _ _ c.in_ok-text.text (rw c.in_ok-text.was at asks) c.print.result (rw c.deref.ensures.value at c.print.ensures)
