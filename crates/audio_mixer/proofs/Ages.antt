@@ -1,14 +1,12 @@
 -- What one more sample does to a note that is kept.
-use Rattle.std.specs.Prelude.{◌≡◌, ℕ, ◌+◌, ◌*◌, ◌/◌, ◌%◌, ◌<◌, ◌≤◌, min}
-use Rattle.std.specs.Prelude.{Bool, true, false}
-use Rattle.std.specs.Prelude.{refl, if◌then◌else◌}
+use Rattle.std.proofs.lemmas.Grind.{common_steps}
+use Rattle.std.specs.Prelude.{◌≡◌, ℕ, ◌+◌, ◌*◌, ◌/◌, ◌%◌, ◌<◌, ◌≤◌, Bool, true, false, refl, if◌then◌else◌}
 use Rattle.std.proofs.Common.{sym, ◌∙◌, ap, arith}
 use Rattle.std.proofs.lemmas.Bool.Decides.{nat_tests}
-use Rattle.std.proofs.Math.Nat.{div-add-mod, mul-add-div, mul-add-mod_self_left, mod-add-mod, mod-eq_of_lt, one-mul, zero-mul, zero-div, zero-mod}
+use Rattle.std.proofs.Math.Nat.{div-add-mod, mul-add-div, mul-add-mod_self_left, mod-add-mod, mod-eq_of_lt, one-mul, zero-mul, zero-mod}
 use Rattle.audio_mixer.specs.declared.notes.Start.{Start}
 use Rattle.audio_mixer.specs.declared.voices.Playing.{Playing}
-use Rattle.audio_mixer.specs.Notes.{advance_of, period_of, length_of, is_repeating, steps_of, wrapped, sample_place}
-use Rattle.audio_mixer.specs.Notes.{is_played, loudness, envelope_at}
+use Rattle.audio_mixer.specs.Notes.{advance_of, period_of, length_of, is_repeating, steps_of, wrapped, sample_place, is_played, loudness, envelope_at}
 use Rattle.audio_mixer.specs.Voices.{Plays, IsAhead}
 use Rattle.audio_mixer.specs.Laws.{loudness-kept}
 
@@ -40,10 +38,7 @@ wrapped-small note x h = elim (is_repeating note) as (λ b. (cond_place b (lengt
 
 pub wrapped-step : (note : Start) (x y : ℕ) → wrapped note (wrapped note x + y) ≡ wrapped note (x + y)
 unfolding wrapped
-wrapped-step note x y = elim (is_repeating note) as (λ b. cond_place b (length_of note) (cond_place b (length_of note) x + y) ≡ cond_place b (length_of note) (x + y)) [
-  | true ↦ mod-add-mod x (length_of note) y
-  | false ↦ refl
-]
+wrapped-step note x y = grind (arith, common_steps, mod-add-mod)
 
 -- no advance yet
 pub rest-none : (note : Start) → 0 * advance_of note % period_of note ≡ 0
@@ -51,22 +46,17 @@ rest-none note = rw (zero-mul (advance_of note)) (zero-mod (period_of note))
 
 pub place-none : (note : Start) → wrapped note (steps_of note 0) ≡ 0
 unfolding steps_of wrapped
-place-none note = rw (zero-mul (advance_of note), zero-div (period_of note)) (elim (is_repeating note) as (λ b. cond_place b (length_of note) 0 ≡ 0) [ true ↦ zero-mod (length_of note) | false ↦ refl ])
+place-none note = grind (arith, common_steps)
 
 -- the phase and the place after so many samples more
 pub phase-passed : (p : Playing) (age more : ℕ) → Plays p p.start age
     → (p.phase + more * p.rest) % p.period ≡ (age + more) * advance_of p.start % period_of p.start
-phase-passed p age more plays =
-    rw (plays.rest, p.rest_of_start, p.period_of_start) (sym (rest-more age more (advance_of p.start) (period_of p.start)))
+phase-passed p age more plays = grind (arith, common_steps, rest-more)
 
 pub place-passed : (p : Playing) (age more steps : ℕ) → Plays p p.start age → steps ≡ more * p.whole + (p.phase + more * p.rest) / p.period
     → wrapped p.start (p.place + steps) ≡ wrapped p.start (steps_of p.start (age + more))
 unfolding steps_of
-place-passed p age more steps plays h =
-    let some : 0 < period_of p.start = rw (← p.period_of_start) p.some_period in
-    let from : steps_of p.start age + steps ≡ steps_of p.start (age + more) =
-    rw (h, plays.rest, p.whole_of_start, p.rest_of_start, p.period_of_start) (omega (arith, steps-more age more (advance_of p.start) (period_of p.start) some)) in
-    rw plays.kept_place (wrapped-step p.start (steps_of p.start age) steps ∙ ap (λ x. wrapped p.start x) from)
+place-passed p age more steps plays h = grind (arith, common_steps, steps-more, wrapped-step)
 
 -- the place once the steps of one more advance are made
 place-ahead : (p : Playing) (age carry : ℕ) → Plays p p.start age → carry ≡ (p.phase + p.rest) / p.period →
@@ -77,14 +67,7 @@ pub ahead-some : (p : Playing) (age carry phase place : ℕ) → Plays p p.start
     carry ≡ (p.phase + p.rest) / p.period → phase ≡ (p.phase + p.rest) % p.period →
     place ≡ wrapped p.start (p.place + (p.whole + carry)) → place < p.len → IsAhead p.start age phase place
 unfolding is_played
-ahead-some p age carry phase place plays c r w h =
-    let at : place ≡ sample_place p.start age = w ∙ place-ahead p age carry plays c in
-    let below : sample_place p.start age < length_of p.start = rw (← at, ← p.len_of_start) h in
-    record {
-      rest = r ∙ ap (λ n. (p.phase + n) % p.period) (sym (one-mul p.rest)) ∙ phase-passed p age 1 plays;
-      heard_at = at;
-      goes_on = grind (arith, nat_tests);
-    }
+ahead-some p age carry phase place plays c r w h = grind (arith, common_steps, one-mul, phase-passed, place-ahead)
 
 pub ahead-none : (p : Playing) (age carry : ℕ) → Plays p p.start age →
     carry ≡ (p.phase + p.rest) / p.period → is_repeating p.start ≡ false → p.len ≤ p.place + (p.whole + carry) → is_played p.start age ≡ true
@@ -97,8 +80,4 @@ ahead-none p age carry plays c once over =
 -- an envelope that is over stays so, for what is kept
 pub loudness-kept-of : (p : Playing) (age : ℕ) → Plays p p.start age →
     loudness p.envelope.attack p.envelope.decay p.envelope.sustain p.envelope.release p.age ≡ envelope_at p.start age
-loudness-kept-of p age plays =
-    let kept : p.age ≡ min age p.envelope.release = plays.kept_age ∙ ap (λ r. min age r) (sym p.release_of_start) in
-    rw kept (loudness-kept p.envelope.attack p.envelope.decay p.envelope.sustain p.envelope.release age
-    p.envelope.falls_later p.envelope.stays_later p.envelope.ends_later
-    ∙ rw (p.attack_of_start, p.decay_of_start, p.sustain_of_start, p.release_of_start) refl)
+loudness-kept-of p age plays = grind (arith, common_steps, loudness-kept)

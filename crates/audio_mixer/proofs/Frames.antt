@@ -1,14 +1,13 @@
 -- A frame, voice by voice.
-use Rattle.std.specs.Prelude.{◌≡◌, ◌≢◌, ℕ, zero, suc, ◌+◌, ◌-◌, ◌*◌, ◌%◌, ◌<◌, ◌≤◌, true, refl, List, All, [], ◌∷◌, ◌++◌, length, take, replicate, ℤ, pos, slice_index_or, None}
-use Rattle.std.specs.Int.{w16, cast_signed, cast_unsigned}
-use Rattle.std.proofs.Common.{sym, ◌∙◌, ap, subst, arith, append_assoc, ⊎_elim}
+use Rattle.std.proofs.lemmas.Grind.{common_steps}
+use Rattle.std.proofs.Common.{rules, tests, sym, ◌∙◌, subst, arith, ⊎_elim}
+use Rattle.std.specs.Prelude.{◌≡◌, ◌≢◌, ℕ, zero, suc, ◌+◌, ◌-◌, ◌*◌, ◌<◌, ◌≤◌, true, refl, List, All, [], ◌∷◌, ◌++◌, length, take, replicate, ℤ, pos}
+use Rattle.std.specs.Prelude.{slice_index_or, None}
 use Rattle.std.proofs.Math.ListN.{set}
 use Rattle.std.proofs.Math.Nat.{add-zero}
 use Rattle.std.proofs.lemmas.Bool.{cases_lt}
-use Rattle.std.proofs.lemmas.Int.{of_z-to_z}
-use Rattle.std.proofs.lemmas.Nat.{mod_below}
-use Rattle.std.proofs.lemmas.List.{length-set, take_all, take_more, get_or-set_same, get_or-set_other, get_or-replicate}
-use Rattle.std.proofs.lemmas.List.Elements.{All-set, All-get_or}
+use Rattle.std.proofs.lemmas.List.{length-set, take_all, get_or-set_other, get_or-replicate}
+use Rattle.std.proofs.lemmas.List.Elements.{All-set}
 use Rattle.audio_mixer.specs.declared.notes.Start.{Start}
 use Rattle.audio_mixer.specs.declared.voices.Playing.{Playing}
 use Rattle.audio_mixer.specs.declared.voices.Voice.{Voice}
@@ -36,10 +35,7 @@ of_note Holds p note age holds plays = subst (λ s. Plays p s age → Holds s ag
 
 -- a sum is a short
 added-short : (a b : ℤ) → IsShort (added a b)
-added-short a b =
-    let sum = (cast_unsigned w16 a + cast_unsigned w16 b) % 65536 in
-    let bits : cast_unsigned w16 (cast_signed w16 sum) ≡ sum = of_z-to_z w16 sum (mod_below _ 65536 (omega arith)) in
-    ap (λ n. cast_signed w16 ((n + 0) % 65536)) bits ∙ ap (λ n. cast_signed w16 n) (omega arith)
+added-short a b = grind (arith, common_steps)
 
 -- a pair put in the place of another
 abbrev with_pair : List ℤ → ℕ → ℤ → ℤ → List ℤ
@@ -47,20 +43,15 @@ with_pair frame place left right = set (set frame (2 * place) left) (2 * place +
 
 at-left : (frame : List ℤ) (place : ℕ) (left right : ℤ) → 2 * place + 1 < length frame
     → slice_index_or (with_pair frame place left right) (2 * place) (pos 0) ≡ left
-at-left frame place left right h =
-    get_or-set_other (set frame (2 * place) left) (2 * place + 1) (2 * place) right (pos 0) (λ e. omega arith)
-    ∙ get_or-set_same frame (2 * place) left (pos 0) (omega arith)
+at-left frame place left right h = grind (arith, common_steps)
 
 at-right : (frame : List ℤ) (place : ℕ) (left right : ℤ) → 2 * place + 1 < length frame
     → slice_index_or (with_pair frame place left right) (2 * place + 1) (pos 0) ≡ right
-at-right frame place left right h =
-    get_or-set_same (set frame (2 * place) left) (2 * place + 1) right (pos 0) (rw (length-set frame (2 * place) left) h)
+at-right frame place left right h = grind (arith, common_steps)
 
 at-other : (frame : List ℤ) (place k : ℕ) (left right : ℤ) → k ≢ 2 * place → k ≢ 2 * place + 1
     → slice_index_or (with_pair frame place left right) k (pos 0) ≡ slice_index_or frame k (pos 0)
-at-other frame place k left right l r =
-    get_or-set_other (set frame (2 * place) left) (2 * place + 1) k right (pos 0) r
-    ∙ get_or-set_other frame (2 * place) k left (pos 0) l
+at-other frame place k left right l r = grind (arith, common_steps)
 
 -- one more pair is added
 adds-more : (memory : List ℕ) (sound : Sound) (count : ℕ) (before after : List ℤ) (x y : ℤ) → 2 * count + 1 < length after
@@ -112,27 +103,13 @@ added-more memory note age count was now before after pair below done next = rec
 
 -- no pair is added yet
 pub adds-none : (memory : List ℕ) (sound : Sound) (frame : List ℤ) → All IsShort frame → AddsSound memory sound 0 frame frame
-adds-none memory sound frame shorts = record {
-  left = λ k h. absurd (omega arith);
-  right = λ k h. absurd (omega arith);
-  others = λ k h. refl;
-  shorts = shorts;
-}
+adds-none memory sound frame shorts = grind (arith, common_steps)
 
 -- the pairs that are left are those of a sound that is silent from there on
 pub adds-silence : (memory : List ℕ) (sound : Sound) (count : ℕ) (before after : List ℤ) → length before ≡ 1470 → count ≤ 735
     → All IsShort before → AddsSound memory sound count before after
     → ((volume : Start → ℕ) (k : ℕ) → count ≤ k → sample_in memory volume sound k ≡ pos 0) → AddsSound memory sound 735 before after
-adds-silence memory sound count before after size few shorts adds silent = record {
-  left = λ k h. ⊎_elim (λ below. adds.left k below)
-      (λ over. adds.others (2 * k) (omega arith) ∙ rw (silent left_of k over) (sym (All-get_or IsShort before (2 * k) (pos 0) (omega (arith, size)) shorts)))
-      (cases_lt k count);
-  right = λ k h. ⊎_elim (λ below. adds.right k below)
-      (λ over. adds.others (2 * k + 1) (omega arith) ∙ rw (silent right_of k over) (sym (All-get_or IsShort before (2 * k + 1) (pos 0) (omega (arith, size)) shorts)))
-      (cases_lt k count);
-  others = λ k h. adds.others k (omega arith);
-  shorts = adds.shorts;
-}
+adds-silence memory sound count before after size few shorts adds silent = search (rules, tests, cases_lt)
 
 -- a note that has ended is silent, and so is a voice that is stopped
 pub ended-silent : (memory : List ℕ) (note : Start) (age count : ℕ) → note_has_ended note (age + count) ≡ true
@@ -151,18 +128,12 @@ stopped-silent memory voice (Note note age) none sounds volume k h =
 
 pub stopped-adds : (memory : List ℕ) (voice : Voice) (sound : Sound) (frame : List ℤ) → length frame ≡ 1470
     → voice.playing ≡ None → Sounds voice sound → All IsShort frame → AddsSound memory sound 735 frame frame
-stopped-adds memory voice sound frame size none sounds shorts =
-    adds-silence memory sound 0 frame frame size (omega arith) shorts (adds-none memory sound frame shorts) (stopped-silent memory voice sound none sounds)
+stopped-adds memory voice sound frame size none sounds shorts = grind (arith, common_steps, adds-none, adds-silence, stopped-silent)
 
 -- a frame is a pair after the other
 prefix-more : (frame : List ℤ) (count : ℕ) → 2 * count + 1 < length frame → take (2 * suc count) frame
     ≡ take (2 * count) frame ++ slice_index_or frame (2 * count) (pos 0) ∷ slice_index_or frame (2 * count + 1) (pos 0) ∷ []
-prefix-more frame count h =
-    let more : 2 * suc count ≡ 2 * count + 1 + 1 = omega arith in
-    ap (λ n. take n frame) more
-    ∙ take_more frame (2 * count + 1) (pos 0) h
-    ∙ ap (λ prefix. prefix ++ slice_index_or frame (2 * count + 1) (pos 0) ∷ []) (take_more frame (2 * count) (pos 0) (omega arith))
-    ∙ append_assoc (take (2 * count) frame) (slice_index_or frame (2 * count) (pos 0) ∷ []) (slice_index_or frame (2 * count + 1) (pos 0) ∷ [])
+prefix-more frame count h = grind (arith, common_steps)
 
 -- each pair of a frame is mixed
 record IsMixed (memory : List ℕ) (sounds : ℕ → Sound) (frame : List ℤ) (k : ℕ) : Type 0 where

@@ -1,29 +1,19 @@
 -- Notes that are over, and what voices give.
-use Rattle.std.specs.Prelude.{◌≡◌, ℕ, zero, suc, ◌+◌, ◌*◌, ◌/◌, ◌≤◌, true, false}
-use Rattle.std.specs.Prelude.{refl, List}
-use Rattle.std.specs.Prelude.{slice_index}
-use Rattle.std.proofs.Common.{◌∙◌, ap, subst, arith}
+use Rattle.std.proofs.lemmas.Grind.{common_steps}
+use Rattle.std.specs.Prelude.{◌≡◌, ℕ, zero, suc, ◌+◌, ◌≤◌, true, false, refl, List, slice_index}
+use Rattle.std.proofs.Common.{subst, arith}
 use Rattle.std.proofs.lemmas.Bool.Decides.{nat_tests}
 use Rattle.std.proofs.Math.Numerals.{add-one}
-use Rattle.std.proofs.Math.Nat.{mul-le-mul_right, div-zero, div-mul-le_self}
-use Rattle.std.proofs.lemmas.Nat.{le-div}
 use Rattle.audio_mixer.specs.declared.notes.Start.{Start}
 use Rattle.audio_mixer.specs.declared.voices.Pair.{Pair}
-use Rattle.audio_mixer.specs.Notes.{advance_of, period_of, steps_of, wrapped, sample_place}
-use Rattle.audio_mixer.specs.Notes.{is_played, is_released, note_has_ended, envelope_at, heard, left_of, right_of}
+use Rattle.audio_mixer.specs.Notes.{steps_of, wrapped, is_played, is_released, note_has_ended, envelope_at, heard, left_of, right_of}
 use Rattle.audio_mixer.specs.Sounds.{note_is_over}
 use Rattle.audio_mixer.specs.Voices.{IsAhead, GivesPair}
 
 -- a note that has ended has ended at every later age
-quotient-grow : (a b p : ℕ) → a ≤ b → a / p ≤ b / p
-quotient-grow a b zero h = rw (div-zero a, div-zero b) (omega arith)
-quotient-grow a b (suc p) h = le-div (a / suc p) b (suc p) (omega arith) (omega (arith, div-mul-le_self a (suc p)))
-
 steps-grow : (note : Start) (age : ℕ) → steps_of note age ≤ steps_of note (age + 1)
 unfolding steps_of
-steps-grow note age =
-    let more : age ≤ age + 1 = omega arith in
-    quotient-grow (age * advance_of note) ((age + 1) * advance_of note) (period_of note) (mul-le-mul_right (advance_of note) more)
+steps-grow note age = grind (arith, common_steps)
 
 released-later : (note : Start) (age : ℕ) → is_released note age ≡ true → is_released note (age + 1) ≡ true
 unfolding is_released
@@ -51,10 +41,4 @@ pub gives-pair : (memory : List ℕ) (note : Start) (age phase place byte : ℕ)
     is_released note age ≡ false → IsAhead note age phase place → byte ≡ slice_index memory (note.addr + place) →
     pair.left ≡ heard byte (envelope_at note age) (left_of note) → pair.right ≡ heard byte (envelope_at note age) (right_of note) →
     GivesPair memory note age pair
-gives-pair memory note age phase place byte pair released ahead got left right =
-    let on = not-ended note age phase place released ahead in
-    let at : byte ≡ slice_index memory (note.addr + sample_place note age) = got ∙ ap (λ x. slice_index memory (note.addr + x)) ahead.heard_at in
-    record {
-      left = left ∙ rw (on, at) refl;
-      right = right ∙ rw (on, at) refl;
-    }
+gives-pair memory note age phase place byte pair released ahead got left right = grind (arith, common_steps)

@@ -1,14 +1,14 @@
 -- A frame of which no samples are requested.
+use Rattle.std.proofs.lemmas.Grind.{common_steps}
 use Rattle.std.specs.Prelude.{◌≡◌, ℕ, zero, suc, ◌+◌, ◌*◌, ◌/◌, ◌%◌, ◌==◌, true, false, min, refl, None}
-use Rattle.std.proofs.Common.{sym, ◌∙◌, subst, arith}
-use Rattle.std.proofs.lemmas.Bool.Decides.{nat_tests}
+use Rattle.std.proofs.Common.{◌∙◌, arith}
 use Rattle.std.proofs.lemmas.Bool.{and_parts}
 use Rattle.audio_mixer.specs.declared.notes.Start.{Start}
 use Rattle.audio_mixer.specs.declared.voices.Playing.{Playing}
 use Rattle.audio_mixer.specs.declared.voices.Voice.{Voice}
 use Rattle.audio_mixer.specs.Notes.{length_of, release_of, is_repeating, is_released, is_played, note_has_ended, steps_of, wrapped}
 use Rattle.audio_mixer.specs.Sounds.{Sound, Silence, Note, note_is_over, is_endless, later}
-use Rattle.audio_mixer.specs.Voices.{Plays, SoundsAs, Sounds}
+use Rattle.audio_mixer.specs.Voices.{Plays, Sounds}
 use Rattle.audio_mixer.proofs.Ages.{place-passed}
 use Rattle.audio_mixer.proofs.Frames.{over-far}
 use Rattle.audio_mixer.proofs.Overs.{over-ended}
@@ -16,10 +16,7 @@ use Rattle.audio_mixer.proofs.Overs.{over-ended}
 -- a note without end is never over
 never-ended : (note : Start) (age : ℕ) → is_endless note ≡ true → note_has_ended note age ≡ false
 unfolding is_released is_played
-never-ended note age e =
-    let repeats = (and_parts (is_repeating note) (release_of note == 0) e).0 in
-    let flat = (and_parts (is_repeating note) (release_of note == 0) e).1 in
-    grind (arith, nat_tests)
+never-ended note age e = grind (arith, common_steps)
 
 never-over : (note : Start) (age : ℕ) → is_endless note ≡ true → note_is_over note age ≡ false
 never-over note zero e = refl
@@ -39,10 +36,7 @@ place-without_end p age more plays e =
     rw (on, p.len_of_start) (wrapped-repeating p.start _ repeats ∙ place-passed p age more _ plays refl)
 
 pub age-passed : (p : Playing) (age more : ℕ) → Plays p p.start age → is_endless p.start ≡ true → p.age ≡ min (age + more) (release_of p.start)
-age-passed p age more plays e =
-    let flat = (and_parts (is_repeating p.start) (release_of p.start == 0) e).1 in
-    let kept = plays.kept_age in
-    grind (arith, nat_tests)
+age-passed p age more plays e = grind (arith, common_steps)
 
 pub on-passed : (p : Playing) (age more : ℕ) → is_endless p.start ≡ true → note_is_over p.start (age + more) ≡ false
 on-passed p age more e = never-over p.start (age + more) e
@@ -50,6 +44,4 @@ on-passed p age more e = never-over p.start (age + more) e
 -- a voice that is stopped stays so
 pub stopped-later : (voice : Voice) (sound : Sound) → voice.playing ≡ None → Sounds voice sound → Sounds voice (later 735 sound)
 stopped-later voice Silence none sounds = sounds
-stopped-later voice (Note note age) none sounds =
-    let over : note_is_over note age ≡ true = subst (λ p. SoundsAs p (Note note age)) none sounds in
-    subst (λ p. SoundsAs p (Note note (age + 735))) (sym none) (over-far note age 735 (omega arith) (over-ended note age over))
+stopped-later voice (Note note age) none sounds = grind (arith, common_steps, over-ended, over-far)

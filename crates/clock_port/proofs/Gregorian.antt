@@ -4,6 +4,7 @@ use Rattle.std.proofs.lemmas.Bool.{cases_eq}
 use Rattle.std.proofs.lemmas.List.{take-take}
 use Rattle.std.proofs.lemmas.List.Sums.{sum_by-take-le}
 use Rattle.clock_port.specs.Calendar.{is_leap_year, days_before_year, days_before_month, month_lengths, last_below, year_of, month_of, fields_of, IsDate, day_number, date_fields}
+use Rattle.std.proofs.lemmas.Grind.{common_steps}
 
 -- a year has 365 days, and a leap year one more
 pub next_year : (year : ℕ) → days_before_year (suc year + 1) ≡ days_before_year (suc year) + cond (is_leap_year (suc year)) 366 365
@@ -56,19 +57,7 @@ month_of-is year month place within begun before =
 -- the next month begins after the days of this one, and the year ends with its twelfth
 pub next_month : (year month : ℕ) → month < 12 → days_before_month year (month + 1) ≡ days_before_month year month + get_or (month_lengths year) month 0
 unfolding days_before_month
-next_month year zero within = grind arith
-next_month year (suc zero) within = grind arith
-next_month year (suc (suc zero)) within = grind arith
-next_month year (suc (suc (suc zero))) within = grind arith
-next_month year (suc (suc (suc (suc zero)))) within = grind arith
-next_month year (suc (suc (suc (suc (suc zero))))) within = grind arith
-next_month year (suc (suc (suc (suc (suc (suc zero)))))) within = grind arith
-next_month year (suc (suc (suc (suc (suc (suc (suc zero))))))) within = grind arith
-next_month year (suc (suc (suc (suc (suc (suc (suc (suc zero)))))))) within = grind arith
-next_month year (suc (suc (suc (suc (suc (suc (suc (suc (suc zero))))))))) within = grind arith
-next_month year (suc (suc (suc (suc (suc (suc (suc (suc (suc (suc zero)))))))))) within = grind arith
-next_month year (suc (suc (suc (suc (suc (suc (suc (suc (suc (suc (suc zero))))))))))) within = grind arith
-next_month year (suc (suc (suc (suc (suc (suc (suc (suc (suc (suc (suc (suc month)))))))))))) within = absurd (omega arith)
+next_month year month within = grind (arith, common_steps)
 
 whole_year : (year : ℕ) → days_before_month year 12 ≡ cond (is_leap_year year) 366 365
 unfolding days_before_month

@@ -14,6 +14,7 @@ use Rattle.jiff_core.proofs.SignedLemmas.{signed_arith}
 use Rattle.clock_port.specs.Calendar.{days_before_year, days_before_month, month_lengths, day_number, clock_seconds, civil_fields, IsDate}
 use Rattle.clock_port.proofs.Gregorian.{next_year, next_month, date_found}
 use borrow.Author.Differences.{up, down}
+use Rattle.std.proofs.lemmas.Grind.{common_steps}
 
 from_year_1 : (year : ℕ) → day_count (pos (suc year)) 1 1 ≡ day_count (pos 1) 1 1 + days_before_year (suc year)
 unfolding days_before_year
@@ -98,10 +99,7 @@ weekday_is : (day : ℤ) (number : ℕ) → up day + 719162 ≡ down day + numbe
 weekday_is day number numbered = omega (arith, weekday_number-parts day)
 
 is_date : (d : Date) (year : ℕ) → d.year ≡ pos (suc year) → suc year < 10000 → IsDate (suc year) (d.month - 1) d.day
-is_date d year e within =
-    let back : d.month - 1 + 1 ≡ d.month = omega (arith, d.month_in) in
-    let size : days_in_month (pos (suc year)) d.month ≡ get_or (month_lengths (suc year)) (d.month - 1) 0 = rw back at (length_is (suc year) (d.month - 1) (omega (arith, d.month_in))) in
-    record { year_from = omega arith; year_to = within; month_to = omega (arith, d.month_in); day_from = d.day_in.0; day_to = rw (sym size) (subst (λ y. d.day ≤ days_in_month y d.month) e d.day_in.1) }
+is_date d year e within = grind (arith, common_steps)
 
 pub shows : (dt : DateTime) (seconds offset : ℤ) → pos 0 ≤ℤ seconds → neg_ℤ (pos 840) ≤ℤ offset → civil_nanos dt ≡ seconds *ℤ pos 1000000000 +ℤ offset *ℤ pos 60 *ℤ pos 1000000000
     → civil_fields seconds offset ≡ record {

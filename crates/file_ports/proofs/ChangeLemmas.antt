@@ -1,39 +1,34 @@
 -- What a write and a delete change: what a write begins with, and what is added behind that.
-use Rattle.std.proofs.Common.{◌≡◌, ℕ, ◌⊎◌, inl, inr, Bool, true, false, not, ◌&&◌, ◌||◌, List, [], ◌∷◌, ◌++◌, take, drop, refl, ap, sym, subst, ◌∙◌}
+use Rattle.std.proofs.Common.{arith, ◌≡◌, ℕ, ◌⊎◌, inl, inr, Bool, true, false, not, ◌&&◌, ◌||◌, List, [], ◌∷◌, ◌++◌, take, drop, refl, ap, sym, subst}
+use Rattle.std.proofs.Common.{◌∙◌}
+use Rattle.std.proofs.lemmas.Grind.{common_steps}
 use Rattle.std.specs.Prelude.{Option, Some, None, IfSome, IsSome, IsTrue, Result, Ok, Err, IfOk, is_err, is_some, if◌then◌else◌}
-use Rattle.std.specs.Option.{option_map}
 use Rattle.std.specs.FinMap as map
 use Rattle.std.proofs.lemmas.List.{append-nil}
 use Rattle.uxn_io_traits.specs.declared.sinks.Failed.{Failed}
-use Rattle.uxn_io_traits.specs.Files.{Node, Nodes, File, Folder, kind_at, kind_of, file_at, bytes_of}
+use Rattle.uxn_io_traits.specs.Files.{Node, Nodes, File, kind_at, file_at, bytes_of}
 use Rattle.uxn_io_traits.specs.CallLaws.{unknown-as, contents_after-creating}
-use Rattle.uxn_io_traits.specs.Changes.{can_create, with_created}
+use Rattle.uxn_io_traits.specs.Changes.{can_create}
 use Rattle.uxn_io_traits.specs.NodeLaws.{get_put}
-use Rattle.uxn_io_traits.specs.Outside.{Change, Creates, Removes}
+use Rattle.uxn_io_traits.specs.Outside.{Change, Creates}
 use Rattle.uxn_io_traits.specs.State.{TreeState}
-use Rattle.uxn_io_traits.specs.Ended.{TreeEnded, TreeLooked, creating, appending, removing}
+use Rattle.uxn_io_traits.specs.Ended.{TreeEnded, TreeLooked, creating, appending}
 use Rattle.uxn_io_traits.specs.EndedLaws.{looked-ended, looked-tree, tree-then, tree-first}
 use Rattle.uxn_memory.specs.Bytes.{bank0}
-use Rattle.file_ports.specs.Device.{FileState, idle_at, is_writing}
-use Rattle.file_ports.specs.Actions.{Write, Delete, FileOutcome, Observed, observed_file, is_file, begun, adds, quiet, deletes, acts, count_from}
-use Rattle.file_ports.specs.AnswersAction.{changes_unknown, changes_by, then_changes, changes_written}
+use Rattle.file_ports.specs.Device.{FileState, is_writing}
+use Rattle.file_ports.specs.Actions.{Write, observed_file, is_file, begun, count_from}
+use Rattle.file_ports.specs.AnswersAction.{changes_by, then_changes, changes_written}
 
 -- how a write begins, by what decides it
 abbrev chosen : Bool → Bool → Bool → List ℕ → Option (List Change)
 chosen on writes can path = if on then Some [] else if not writes && can then Some (Creates path ∷ []) else None
 
 chosen-quiet : (on writes can : Bool) (path : List ℕ) → (on ≡ true) ⊎ (writes ≡ true) → [] ≡ then_changes (chosen on writes can path) []
-chosen-quiet true writes can path either = refl
-chosen-quiet false true can path either = refl
-chosen-quiet false false can path (inl on) = cc
-chosen-quiet false false can path (inr writes) = cc
+chosen-quiet = grind (arith, common_steps)
 
 chosen-new : (on writes can : Bool) (path : List ℕ) → on ≡ false → writes ≡ false
     → (if can then Creates path ∷ [] else []) ≡ then_changes (chosen on writes can path) []
-chosen-new true writes can path off idle = cc
-chosen-new false true can path off idle = cc
-chosen-new false false true path off idle = refl
-chosen-new false false false path off idle = refl
+chosen-new = grind (arith, common_steps)
 
 module _ (path : List ℕ) (writing keep : Bool) where
   -- nothing is done to begin
@@ -53,17 +48,9 @@ module _ (path : List ℕ) (writing keep : Bool) where
   pub begin-new : (a b c : TreeState) (goes failed : Bool) → IfSome a.contents (λ nodes. goes ≡ ((writing || keep) && is_file (kind_at nodes path)))
       → goes ≡ false → writing ≡ false → TreeLooked false a b → TreeEnded (creating b.contents path) failed b c
       → TreeEnded (changes_written writing keep a.contents path []) failed a c
-  begin-new a b c goes failed answer off idle looked made =
-      subst (λ changes. TreeEnded changes failed a c) (ap (λ contents. creating contents path) looked.contents ∙ by a.contents answer)
-      (looked-tree (creating b.contents path) failed a b c looked made)
-    where
-      by : (contents : Option Nodes) → IfSome contents (λ nodes. goes ≡ ((writing || keep) && is_file (kind_at nodes path)))
-          → creating contents path ≡ changes_written writing keep contents path []
-      by None answer = refl
-      by (Some nodes) answer =
-          chosen-new ((writing || keep) && is_file (kind_at nodes path)) writing (can_create nodes path) path (sym answer ∙ off) idle
+  begin-new a b c goes failed answer off idle looked made = grind (arith, common_steps, chosen-new, looked-tree)
 
-  -- what was to come behind a beginning that failed, or could not be
+  -- what was to come behind a beginning that failed
   pub added-first : (a b : TreeState) (more : List Change) → TreeEnded (changes_written writing keep a.contents path []) true a b
       → TreeEnded (changes_written writing keep a.contents path more) true a b
   added-first a b more failed = by a.contents failed
@@ -77,20 +64,6 @@ module _ (path : List ℕ) (writing keep : Bool) where
           → TreeEnded (changes_written writing keep contents path more) true a b
       by None p = p
       by (Some nodes) p = behind (begun writing keep (observed_file nodes path)) p
-
-  pub added-none : (a b : TreeState) (more : List Change) (goes : Bool) → IfSome a.contents (λ nodes. goes ≡ is_some (begun writing keep (observed_file nodes path)))
-      → goes ≡ false → TreeEnded (changes_written writing keep a.contents path []) false a b
-      → TreeEnded (changes_written writing keep a.contents path more) false a b
-  added-none a b more goes begins off ended = by a.contents begins ended
-    where
-      behind : (first : Option (List Change)) → goes ≡ is_some first → TreeEnded (then_changes first []) false a b → TreeEnded (then_changes first more) false a b
-      behind None begins p = p
-      behind (Some first) begins p = let no : true ≡ false = sym begins ∙ off in cc
-
-      by : (contents : Option Nodes) → IfSome contents (λ nodes. goes ≡ is_some (begun writing keep (observed_file nodes path)))
-          → TreeEnded (changes_written writing keep contents path []) false a b → TreeEnded (changes_written writing keep contents path more) false a b
-      by None begins p = p
-      by (Some nodes) begins p = behind (begun writing keep (observed_file nodes path)) begins p
 
   -- bytes behind a beginning
   pub added-all : (a b c : TreeState) (piece : List ℕ) (goes failed : Bool)
@@ -106,7 +79,8 @@ module _ (path : List ℕ) (writing keep : Bool) where
           subst (λ changes. TreeEnded (changes ++ appending path piece) failed a c) (append-nil first)
           (tree-then (first ++ []) (appending path piece) failed a b c p added)
 
-      by : (contents : Option Nodes) → a.contents ≡ contents → IfSome contents (λ nodes. goes ≡ is_some (begun writing keep (observed_file nodes path)))
+      by : (contents : Option Nodes) → a.contents ≡ contents
+          → IfSome contents (λ nodes. goes ≡ is_some (begun writing keep (observed_file nodes path)))
           → TreeEnded (changes_written writing keep contents path []) false a b
           → TreeEnded (changes_written writing keep contents path (appending path piece)) failed a c
       by None contents begins p =
@@ -119,51 +93,14 @@ made_file false path nodes h = cc
 
 -- where a file was made one is there
 pub file_made : (before now : TreeState) (path : List ℕ) (r : Result Bool Failed)
-    → IfOk r (λ made. IfSome before.contents (λ nodes. made ≡ can_create nodes path)) → TreeEnded (creating before.contents path) (is_err r) before now
+    → IfOk r (λ made. IfSome before.contents (λ nodes. made ≡ can_create nodes path))
+    → TreeEnded (creating before.contents path) (is_err r) before now
     → IfOk r (λ goes. IsTrue goes → IfSome now.contents (λ nodes. IsSome (file_at nodes path)))
 file_made before now path (Err fault) answers ended = tt
-file_made before now path (Ok made) answers ended = λ on. by before.contents on answers (ended.stands ∙ contents_after-creating path before.contents)
-  where
-    by : (contents : Option Nodes) → made ≡ true → IfSome contents (λ nodes. made ≡ can_create nodes path)
-        → now.contents ≡ option_map (with_created path) contents → IfSome now.contents (λ nodes. IsSome (file_at nodes path))
-    by None on answers is = rw is tt
-    by (Some nodes) on answers is = rw is (made_file (can_create nodes path) path nodes (sym answers ∙ on))
-
--- what the device did then
-adds-changes : (first : Option (List Change)) (path memory piece : List ℕ) → then_changes first (appending path piece) ≡ (adds path memory piece first).changes
-adds-changes None path memory piece = refl
-adds-changes (Some first) path memory piece = refl
+file_made before now path (Ok made) answers ended = grind (arith, common_steps, contents_after-creating, made_file)
 
 -- so these are the changes of a device at a path that writes
 pub write-changes : (at length_given : ℕ) (keep writing : Bool) (path piece : List ℕ) (device : FileState) (memory : List ℕ) (contents : Option Nodes)
     → device.path ≡ Some path → writing ≡ is_writing device.mode → piece ≡ take (count_from at length_given) (drop at (bank0 memory))
     → changes_written writing keep contents path (appending path piece) ≡ changes_by (Write at length_given keep) contents device memory
-write-changes at length_given keep writing path piece device memory None is writes pieces = ap (changes_unknown (Write at length_given keep)) (sym is)
-write-changes at length_given keep writing path piece device memory (Some nodes) is writes pieces =
-    rw writes (rw pieces (
-    adds-changes (begun (is_writing device.mode) keep (observed_file nodes path)) path memory (take (count_from at length_given) (drop at (bank0 memory)))
-    ∙ ap (λ (o : Option (List ℕ)). (acts (Write at length_given keep) None device memory (option_map (observed_file nodes) o)).changes) (sym is)
-    ))
-
--- a delete
-file_observed : (node : Option Node) → is_some (bytes_of node) ≡ is_file (kind_of node)
-file_observed None = refl
-file_observed (Some (File bytes)) = refl
-file_observed (Some Folder) = refl
-
-abbrev removes : Bool → List ℕ → List ℕ → FileOutcome
-removes there path memory =
-    if there then record { success = 1; device = idle_at (Some path); memory = memory; changes = Removes path ∷ [] }
-    else quiet 0 (idle_at (Some path)) memory
-
-removes-changes : (there : Bool) (path memory : List ℕ) → (if there then Removes path ∷ [] else []) ≡ (removes there path memory).changes
-removes-changes true path memory = refl
-removes-changes false path memory = refl
-
-pub delete-changes : (path : List ℕ) (device : FileState) (memory : List ℕ) (contents : Option Nodes) → device.path ≡ Some path
-    → removing contents path ≡ changes_by Delete contents device memory
-delete-changes path device memory None is = refl
-delete-changes path device memory (Some nodes) is =
-    ap (λ (there : Bool). if there then Removes path ∷ [] else []) (file_observed (map.get nodes path))
-    ∙ removes-changes (is_file (kind_at nodes path)) path memory
-    ∙ ap (λ (observed : Option Observed). (deletes device memory observed).changes) (ap (option_map (observed_file nodes)) (sym is))
+write-changes = grind (arith, common_steps)

@@ -1,20 +1,21 @@
 -- Bytes put in memory, one piece after another.
-use Rattle.std.proofs.Common.{◌≡◌, ℕ, zero, suc, ◌+◌, ◌*◌, ◌%◌, ◌<◌, ◌≤◌, List, [], ◌∷◌, ◌++◌, length, take, drop, replicate, ap, sym, ◌∙◌, add-one, arith, append_assoc}
+use Rattle.std.proofs.lemmas.Grind.{common_steps}
+use Rattle.std.proofs.Common.{◌≡◌, ℕ, zero, suc, ◌+◌, ◌*◌, ◌%◌, ◌<◌, ◌≤◌, List, [], ◌∷◌, ◌++◌, length, take, drop, replicate, ap, sym, ◌∙◌, add-one}
+use Rattle.std.proofs.Common.{arith, append_assoc}
 use Rattle.std.specs.Prelude.{slice_set}
-use Rattle.std.proofs.lemmas.List.{append-nil, take-append-drop, length-append, length-take-le, length-replicate, take_at, drop_at, drop-drop, drop_more, set_at, take-set-le, drop-set, replicate_more}
+use Rattle.std.proofs.lemmas.List.{length-append, length-take-le, length-replicate, take_at, drop_at, drop-drop, drop_more, set_at, replicate_more}
 use Rattle.uxn_memory.specs.Bytes.{bank_place, with_bytes, filled}
 
 -- to put nothing changes nothing
 pub with_nothing : (memory : List ℕ) (at : ℕ) → with_bytes memory at [] ≡ memory
-with_nothing memory at =
-    let e : at + 0 ≡ at = omega arith in
-    ap (λ (z : List ℕ). z ++ drop (at + 0) memory) (append-nil (take at memory)) ∙ ap (λ (n : ℕ). take at memory ++ drop n memory) e ∙ take-append-drop at memory
+with_nothing memory at = grind (arith, common_steps)
 
 prefix_length : (memory : List ℕ) (at : ℕ) (xs : List ℕ) → at ≤ length memory → length (take at memory ++ xs) ≡ at + length xs
 prefix_length memory at xs h = length-append (take at memory) xs ∙ ap (λ (n : ℕ). n + length xs) (length-take-le at memory h)
 
 -- a piece behind a piece is both
-pub with_more : (memory : List ℕ) (at : ℕ) (xs ys : List ℕ) → at ≤ length memory → with_bytes (with_bytes memory at xs) (at + length xs) ys ≡ with_bytes memory at (xs ++ ys)
+pub with_more : (memory : List ℕ) (at : ℕ) (xs ys : List ℕ) → at ≤ length memory
+    → with_bytes (with_bytes memory at xs) (at + length xs) ys ≡ with_bytes memory at (xs ++ ys)
 with_more memory at xs ys h =
     let prefix = take at memory ++ xs in
     let size = prefix_length memory at xs h in
@@ -27,17 +28,13 @@ with_more memory at xs ys h =
     ∙ ap (λ (z : List ℕ). z ++ drop (at + length (xs ++ ys)) memory) (append_assoc (take at memory) xs ys)
 
 -- a byte set behind where a piece is put is the last of a longer one
-pub with_last : (memory : List ℕ) (at : ℕ) (xs : List ℕ) (y : ℕ) → at + length xs < length memory → with_bytes (slice_set memory (at + length xs) y) at xs ≡ with_bytes memory at (xs ++ y ∷ [])
-with_last memory at xs y h =
-    let prefix : take at (slice_set memory (at + length xs) y) ≡ take at memory = take-set-le at memory (at + length xs) y (omega arith) in
-    let back : drop (at + length xs) (slice_set memory (at + length xs) y) ≡ y ∷ drop (at + length xs + 1) memory = drop-set memory (at + length xs) y h in
-    let e : at + length xs + 1 ≡ at + length (xs ++ y ∷ []) = omega (arith, length-append xs (y ∷ [])) in
-    (λ i. prefix i ++ xs ++ back i)
-    ∙ sym (append_assoc (take at memory ++ xs) (y ∷ []) (drop (at + length xs + 1) memory))
-    ∙ (λ i. append_assoc (take at memory) xs (y ∷ []) i ++ drop (e i) memory)
+pub with_last : (memory : List ℕ) (at : ℕ) (xs : List ℕ) (y : ℕ) → at + length xs < length memory
+    → with_bytes (slice_set memory (at + length xs) y) at xs ≡ with_bytes memory at (xs ++ y ∷ [])
+with_last memory at xs y h = grind (arith, common_steps)
 
 -- a byte set right behind a piece
-then_set : (memory : List ℕ) (at : ℕ) (xs : List ℕ) (y : ℕ) → at + length xs < length memory → slice_set (with_bytes memory at xs) (at + length xs) y ≡ with_bytes memory at (xs ++ y ∷ [])
+then_set : (memory : List ℕ) (at : ℕ) (xs : List ℕ) (y : ℕ) → at + length xs < length memory
+    → slice_set (with_bytes memory at xs) (at + length xs) y ≡ with_bytes memory at (xs ++ y ∷ [])
 then_set memory at xs y h =
     let prefix = take at memory ++ xs in
     let e : at + length xs + 1 ≡ at + length (xs ++ y ∷ []) = omega (arith, length-append xs (y ∷ [])) in
@@ -47,7 +44,8 @@ then_set memory at xs y h =
     ∙ (λ i. append_assoc (take at memory) xs (y ∷ []) i ++ drop (e i) memory)
 
 -- a fill that does not wrap puts the same byte so many times
-pub with_same : (memory : List ℕ) (count at value : ℕ) → length memory ≡ 1048576 → at + count ≤ 65536 → filled memory count 0 at value ≡ with_bytes memory at (replicate count value)
+pub with_same : (memory : List ℕ) (count at value : ℕ) → length memory ≡ 1048576 → at + count ≤ 65536
+    → filled memory count 0 at value ≡ with_bytes memory at (replicate count value)
 unfolding filled
 with_same memory zero at value size h = sym (with_nothing memory at)
 with_same memory (suc count) at value size h =

@@ -1,16 +1,16 @@
 -- The rules of a command with one operand and the options of a table, and what one use of each makes.
-use Rattle.std.proofs.Common.{◌≡◌, ◌∙◌, ◌&&◌, ◌||◌, inl, inr, ℕ, Bool, cond, true, false, not, true≢false, refl, sym, ap, ap₂, subst, List, [], ◌∷◌, ◌++◌, map, Option, Some, None, append-nil, codes, is_some, option_map}
+use Rattle.std.proofs.Common.{arith, ◌≡◌, ◌∙◌, ◌&&◌, ◌||◌, ℕ, Bool, cond, true, false, not, refl, sym, ap, ap₂, List, [], ◌∷◌, ◌++◌, map, Option}
+use Rattle.std.proofs.Common.{Some, None, append-nil, codes, is_some, option_map}
 use Rattle.std.specs.List.{find, fold}
-use Rattle.std.specs.Option.{option_map_or, unwrap_or}
+use Rattle.std.specs.Option.{option_map_or}
 use Rattle.std.specs.Str.{bytes_eq}
-use Rattle.std.proofs.lemmas.Bool.{cases_Bool, false_from_ne_true, or_parts}
 use Rattle.std.proofs.lemmas.List.{map-append}
 use Rattle.std.proofs.lemmas.Slice.Eq.{bytes_eq-Decides}
 use Rattle.clap.proofs.WalkLemmas.{find-map}
 use Rattle.clap.specs.Walk.{Row, has_long, Rule, Text, arg_by_id, arg_by_long, at_row, default_rows, has_row, more_values, used, with_default}
 use Rattle.clap.specs.Simple.{filled, filled_from, new_rule, with_index}
 use Rattle.clap.specs.Takes as takes
-use Rattle.clap.specs.Kinds.{Kinds, or_else}
+use Rattle.clap.specs.Kinds.{Kinds}
 use Rattle.clap.specs.Faults.{defaults_fault, use_fault, default_fault}
 use Rattle.clap.specs.Facts.{explicit_source}
 use Rattle.clap.specs.declared.builder.action.ArgAction.TheVariants.{Set, SetTrue}
@@ -21,6 +21,7 @@ use Rattle.clap.specs.declared.error.kind.ErrorKind.TheVariants as kind
 use Rattle.std.specs.Prelude.{option_and_then, slice_get}
 use Rattle.option_table.specs.Parsing.{argument, choice_argument, from_words, operand_argument}
 use Rattle.option_table.specs.Words.{Choice, GivenArgument, choice_named, operand, given, is_given, argument_value}
+use Rattle.std.proofs.lemmas.Grind.{common_steps}
 
 -- ---- rules
 
@@ -48,8 +49,7 @@ rules_for choices = operand_rule ∷ map choice_rule choices
 
 filled_choice : (i : ℕ) (name : Text) (has_value required : Bool)
     → with_index i (filled (argument name (Some name) has_value required)) ≡ ruled name (Some name) None has_value required
-filled_choice i name true required = refl
-filled_choice i name false required = refl
+filled_choice i name has_value required = grind (arith, common_steps)
 
 filled_choices : (i : ℕ) (choices : List Choice) → filled_from i (map choice_argument choices) ≡ map choice_rule choices
 filled_choices i [] = refl
@@ -62,25 +62,18 @@ filled_rules choices = ap (λ rs. operand_rule ∷ rs) (filled_choices 2 choices
 -- ---- look-ups
 
 pub or_none : (b : Bool) → (b || false) ≡ b
-or_none true = refl
-or_none false = refl
+or_none b = grind (arith, common_steps)
 
 pub by_long : (choices : List Choice) (name : Text) → arg_by_long (rules_for choices) name ≡ option_map choice_rule (choice_named choices name)
 by_long choices name = sym (find-map (λ a. not (is_some a.index) && has_long a name) choice_rule choices)
     ∙ λ i. option_map choice_rule (find (λ choice. or_none (bytes_eq choice.name name) i) choices)
 
 found_passes : {X : Type 0} (p : X → Bool) (xs : List X) (x : X) → find p xs ≡ Some x → p x ≡ true
-found_passes p [] x e = absurd (true≢false (sym (ap is_some e)))
-found_passes p (y ∷ ys) x e = elim (p y) as (λ b. p y ≡ b → cond b (Some y) (find p ys) ≡ Some x → p x ≡ true) [
-  | true ↦ λ h s. subst (λ z. p z ≡ true) (ap (λ o. unwrap_or o x) s) h
-  | false ↦ λ h s. found_passes p ys x s
-] refl e
+found_passes p [] x e = grind (arith, common_steps)
+found_passes p (y ∷ ys) x e = grind (arith, common_steps, found_passes p ys x)
 
 pub same-sym : (a b : Text) → bytes_eq a b ≡ bytes_eq b a
-same-sym a b = elim (cases_Bool (bytes_eq b a)) [
-  | inl t ↦ (bytes_eq-Decides a b).1 (sym ((bytes_eq-Decides b a).0 t)) ∙ sym t
-  | inr f ↦ false_from_ne_true (bytes_eq a b) (λ t. true≢false (sym ((bytes_eq-Decides b a).1 (sym ((bytes_eq-Decides a b).0 t))) ∙ f)) ∙ sym f
-]
+same-sym a b = grind (arith, common_steps, bytes_eq-Decides a b, bytes_eq-Decides b a)
 
 -- an option that is named is found by its id, and is not the operand
 pub record IsKnown (choices : List Choice) (name : Text) (has_value required : Bool) : Type 0 where
@@ -110,17 +103,11 @@ has_row-items id (item ∷ items) = ap (λ b. bytes_eq item.name id || b) (has_r
 
 pub absent : (id : Text) (change : Row → List Row) (missing rows : List Row) → has_row id rows ≡ false → at_row id change missing rows ≡ rows ++ missing
 absent id change missing [] e = refl
-absent id change missing (r ∷ rows) e =
-    let parts = or_parts (bytes_eq r.id id) (has_row id rows) e in
-    ap (λ b. cond b (change r ++ rows) (r ∷ at_row id change missing rows)) parts.0 ∙ ap (λ rs. r ∷ rs) (absent id change missing rows parts.1)
+absent id change missing (r ∷ rows) e = grind (arith, common_steps, absent id change missing rows)
 
 -- one more use, which is refused where the name is not new
 abbrev pub conflict : Bool → Kinds
 conflict is_new = cond is_new [] (kind.ArgumentConflict ∷ [])
-
-conflict-is : (b : Bool) → or_else (cond (b && true) (kind.ArgumentConflict ∷ []) []) [] ≡ conflict (not b)
-conflict-is true = refl
-conflict-is false = refl
 
 abbrev pub values_for : Bool → Text → List Text
 values_for has_value value = cond has_value (value ∷ []) []
@@ -131,10 +118,7 @@ Fits has_value value = has_value ≡ false → value ≡ codes "true"
 
 pub use_faults : (id : Text) (long : Option Text) (index : Option ℕ) (has_value required : Bool) (value : Text) (items : List GivenArgument)
     → use_fault false (ruled id long index has_value required) (values_for has_value value) (map row items) ≡ conflict (not (is_given id items))
-use_faults id long index true required value items =
-    ap (λ b. or_else (cond (b && true) (kind.ArgumentConflict ∷ []) []) []) (has_row-items id items) ∙ conflict-is (is_given id items)
-use_faults id long index false required value items =
-    ap (λ b. or_else (cond (b && true) (kind.ArgumentConflict ∷ []) []) []) (has_row-items id items) ∙ conflict-is (is_given id items)
+use_faults id long index has_value required value items = grind (arith, common_steps, has_row-items)
 
 appended : (id : Text) (change remove : Row → List Row) (value : Text) (items : List GivenArgument) → is_given id items ≡ false
     → at_row id change (row (given id value) ∷ []) (at_row id remove [] (map row items)) ≡ map row (items ++ given id value ∷ [])
@@ -165,10 +149,7 @@ with_defaults choices rows = fold with_default rows (rules_for choices)
 found_pushed : {Z : Type 0} (read : Option Row → Z) (p : Row → Bool) (rows : List Row) (r : Row) → read (cond (p r) (Some r) None) ≡ read None
     → read (find p (rows ++ r ∷ [])) ≡ read (find p rows)
 found_pushed read p [] r e = e
-found_pushed read p (x ∷ rows) r e = elim (p x) as (λ b. read (cond b (Some x) (find p (rows ++ r ∷ []))) ≡ read (cond b (Some x) (find p rows))) [
-  | true ↦ refl
-  | false ↦ found_pushed read p rows r e
-]
+found_pushed read p (x ∷ rows) r e = grind (arith, common_steps, found_pushed read p rows r e)
 
 -- a reading of the row of an id, of which a default is nothing
 module _ {Z : Type 0} (read : Option Row → Z) (same : (name : Text) → read (Some (default_row name)) ≡ read None) (id : Text) where
@@ -196,22 +177,17 @@ module _ {Z : Type 0} (read : Option Row → Z) (same : (name : Text) → read (
   unobserved choices rows = choices_unobserved choices (with_default rows operand_rule) ∙ default_unobserved operand None (Some 1) true true rows
 
 default_passes : (id : Text) (long : Option Text) (index : Option ℕ) (has_value required : Bool) (rows : List Row) → default_fault rows (ruled id long index has_value required) ≡ []
-default_passes id long index true required rows = elim (has_row id rows) as (λ b. cond (b || true) [] (or_else [] []) ≡ []) [ true ↦ refl | false ↦ refl ]
-default_passes id long index false required rows = elim (has_row id rows) as (λ b. cond (b || false) [] (or_else [] []) ≡ []) [ true ↦ refl | false ↦ refl ]
+default_passes id long index has_value required rows = grind (arith, common_steps)
 
 choices_pass : (choices : List Choice) (rows : List Row) → defaults_fault rows (map choice_rule choices) ≡ []
 unfolding defaults_fault
 choices_pass [] rows = refl
-choices_pass (choice ∷ choices) rows =
-    ap (λ k. or_else k (defaults_fault (with_choice rows choice) (map choice_rule choices))) (default_passes choice.name (Some choice.name) None choice.has_value choice.is_required rows)
-    ∙ choices_pass choices (with_choice rows choice)
+choices_pass (choice ∷ choices) rows = grind (arith, common_steps, default_passes, choices_pass choices (with_choice rows choice))
 
 -- no default is refused
 pub defaults_pass : (choices : List Choice) (rows : List Row) → defaults_fault rows (rules_for choices) ≡ []
 unfolding defaults_fault
-defaults_pass choices rows =
-    ap (λ k. or_else k (defaults_fault (with_default rows operand_rule) (map choice_rule choices))) (default_passes operand None (Some 1) true true rows)
-    ∙ choices_pass choices (with_default rows operand_rule)
+defaults_pass choices rows = grind (arith, common_steps, default_passes, choices_pass)
 
 -- ---- what the rows say of the items
 
@@ -220,10 +196,7 @@ explicit found = option_map_or (λ r. explicit_source r.source) found false
 
 items_given : (id : Text) (items : List GivenArgument) → takes.is_given id (map row items) ≡ is_given id items
 items_given id [] = refl
-items_given id (item ∷ items) = elim (bytes_eq item.name id) as (λ b. explicit (cond b (Some (row item)) (find (λ r. bytes_eq r.id id) (map row items))) ≡ (b || is_given id items)) [
-  | true ↦ refl
-  | false ↦ items_given id items
-]
+items_given id (item ∷ items) = grind (arith, common_steps, items_given id items)
 
 pub rows_given : (choices : List Choice) (id : Text) (items : List GivenArgument) → takes.is_given id (with_defaults choices (map row items)) ≡ is_given id items
 rows_given choices id items = unobserved explicit (λ name. refl) id choices (map row items) ∙ items_given id items
@@ -233,11 +206,8 @@ abbrev pub contents : Option Row → Option Text
 contents found = from_words (option_and_then (λ r. r.source) found) (option_and_then (λ r. slice_get r.values 0) found)
 
 items_known : (id : Text) (items : List GivenArgument) → contents (find (λ r. bytes_eq r.id id) (map row items)) ≡ argument_value id items
-items_known id items = ap contents (sym (find-map (λ r. bytes_eq r.id id) row items)) ∙ of_row (find (λ item. bytes_eq item.name id) items)
-  where
-    of_row : (o : Option GivenArgument) → contents (option_map row o) ≡ option_map (λ item. item.value) o
-    of_row None = refl
-    of_row (Some item) = refl
+items_known id [] = refl
+items_known id (item ∷ items) = grind (arith, common_steps, items_known id items)
 
 pub rows_known : (choices : List Choice) (id : Text) (items : List GivenArgument) → contents (find (λ r. bytes_eq r.id id) (with_defaults choices (map row items))) ≡ argument_value id items
 rows_known choices id items = unobserved contents (λ name. refl) id choices (map row items) ∙ items_known id items

@@ -1,24 +1,31 @@
 -- A line of words as the parser walks over it, and the items that it gives.
-use Rattle.std.proofs.Common.{◌≡◌, ◌∙◌, ◌==◌, ◌&&◌, ◌||◌, ◌⊎◌, inl, inr, ℕ, Bool, cond, true, false, not, true≢false, refl, sym, ap, ap₂, List, [], ◌∷◌, ◌++◌, map, length, Option, Some, None, append-nil, append_assoc, codes, is_some, option_map, nat_lt, lt-ltb, arith, ◌+◌, suc, take}
-use Rattle.std.specs.List.{position_or_len, find, list_any, list_all, fold}
+use Rattle.std.proofs.Common.{◌≡◌, ◌∙◌, ◌&&◌, ◌||◌, ◌⊎◌, inl, inr, ℕ, Bool, cond, true, false, not, true≢false, refl, sym, ap, ap₂, List, [], ◌∷◌}
+use Rattle.std.proofs.Common.{◌++◌, map, Option, Some, None, append-nil, codes, option_map, arith}
+use Rattle.std.specs.List.{find, list_any, list_all, fold}
 use Rattle.std.specs.Option.{option_map_or}
 use Rattle.std.specs.Prelude.{option_and_then}
 use Rattle.std.specs.Str.{bytes_eq}
-use Rattle.std.proofs.lemmas.Bool.{and_cases, and_left, and_parts, and_right, cases_Bool, not-false, not-true, or_left, or_right}
-use Rattle.std.proofs.lemmas.Option.{cond_some}
+use Rattle.std.proofs.lemmas.Bool.{and_parts, and_right, cases_Bool, not-true, or_right}
 use Rattle.std.proofs.lemmas.List.Folds.{list_any-append}
 use Rattle.std.proofs.lemmas.Slice.Eq.{bytes_eq-Decides}
-use Rattle.clap.specs.Lexer.{long_of, long_of_rest, short_of, short_of_rest, strip_byte}
-use Rattle.clap.specs.Walk.{Held, option_word, plain_word as plain_met, Row, Rule, Step as WordStep, Text, Waiting, Walk, after_flag, after_step, arg_by_id, arg_by_index, finished, idle, is_empty, nothing_held, rows_after, is_pending, long_met, option, positional, pushed, settled, subcommand_met, takes_several, used, used_by_id, walked}
+use Rattle.clap.specs.Lexer.{long_of, short_of}
+use Rattle.clap.specs.Walk.{Held, option_word, plain_word as plain_met, Row, Rule, Step as WordStep, Text, Waiting, Walk, after_flag, after_step}
+use Rattle.clap.specs.Walk.{arg_by_id, arg_by_index, finished, idle, is_empty, nothing_held, rows_after, is_pending, long_met, option, pushed}
+use Rattle.clap.specs.Walk.{settled, subcommand_met, used, used_by_id, walked}
 use Rattle.clap.specs.Simple.{Shape, built, matches_of, names_of, new_shape}
 use Rattle.clap.specs.Kinds.{Kinds, or_else}
-use Rattle.clap.specs.Faults.{built_fault, check_fault, fault_of, defaults_fault, long_fault, settle_fault, step_fault, turn_fault, walk_fault, use_fault}
+use Rattle.clap.specs.Faults.{built_fault, check_fault, fault_of, defaults_fault, long_fault, settle_fault, step_fault, turn_fault, walk_fault}
+use Rattle.clap.specs.Faults.{use_fault}
 use Rattle.clap.specs.declared.error.kind.ErrorKind.TheVariants as kind
 use Rattle.clap.proofs.FaultLemmas.{leaf_fault}
 use Rattle.clap.proofs.WalkLemmas.{list_any-map}
 use Rattle.option_table.specs.Parsing.{parser_for}
-use Rattle.option_table.specs.Words.{Choice, GivenArgument, begins_without, choice_named, choice_step, operand, follow, given, is_given, is_legal, is_legal_text, is_plain, is_whole, arguments_of, each_once, lacks_some, name_before, option_text, value_behind, values_in, argument_value}
-use Rattle.option_table.proofs.ArgumentLemmas.{Fits, IsKnown, by_long, choice_rule, conflict, defaults_pass, filled_rules, known, operand_rule, or_none, row, rows_given, rows_known, ruled, rules_for, same-sym, contents, use_faults, use_rows, values_for, with_defaults}
+use Rattle.option_table.specs.Words.{Choice, GivenArgument, choice_named, choice_step, operand, follow, given, is_given, is_legal, is_plain, is_whole}
+use Rattle.option_table.specs.Words.{arguments_of, each_once, lacks_some, name_before, option_text, value_behind, values_in}
+use Rattle.option_table.proofs.ArgumentLemmas.{Fits, IsKnown, by_long, choice_rule, conflict, defaults_pass, filled_rules, known, operand_rule}
+use Rattle.option_table.proofs.ArgumentLemmas.{or_none, row, rows_given, rows_known, ruled, rules_for, same-sym, contents, use_faults, use_rows}
+use Rattle.option_table.proofs.ArgumentLemmas.{values_for, with_defaults}
+use Rattle.std.proofs.lemmas.Grind.{common_steps}
 
 -- ---- words
 
@@ -35,82 +42,20 @@ pub record LongWord (word text : Text) : Type 0 where
   pub long : long_of word ≡ Some (name_before text, value_behind text)
   pub named : bytes_eq (name_before text) operand ≡ false
 
-plain_word : (word : Text) → is_plain word ≡ true → PlainWord word
-plain_word [] e = absurd (true≢false (sym e))
-plain_word (x ∷ xs) e =
-    let no : (x == 45) ≡ false = not-true (x == 45) e in
-    record {
-      plain = e;
-      dashes = ap (λ b. b && bytes_eq xs (45 ∷ [])) no;
-      long = ap (λ b. option_and_then long_of_rest (option_and_then (strip_byte 45) (cond b (Some xs) None))) no;
-      short = ap (λ b. option_and_then short_of_rest (cond b (Some xs) None)) no;
-    }
-
-none_text : {A : Type 0} (text : Text) → None ≡ Some text → A
-none_text text e = absurd (true≢false (sym (ap is_some e)))
-
-named_text : (text : Text) → begins_without 61 text ≡ true → bytes_eq (name_before text) operand ≡ false
-named_text [] e = absurd (true≢false (sym e))
-named_text (x ∷ xs) e =
-    let n = position_or_len (λ byte. byte == 61) xs in
-    let one : 1 + n ≡ suc n = omega arith in
-    ap (λ b. bytes_eq (take (cond b (1 + n) 0) (x ∷ xs)) operand) e ∙ ap (λ m. bytes_eq (take m (x ∷ xs)) operand) one
-
-long_word : (word text : Text) → option_text word ≡ Some text → is_legal_text text ≡ true → LongWord word text
-long_word [] text e legal = none_text text e
-long_word (a ∷ []) text e legal = none_text text e
-long_word (a ∷ b ∷ []) text e legal =
-    let two : nat_lt 2 2 ≡ false = refl in
-    none_text text (ap (λ x. cond (x && ((a == 45) && ((b == 45) && true))) (Some []) None) (sym two) ∙ e)
-long_word (a ∷ b ∷ c ∷ rest) text e legal =
-    let many : nat_lt 2 (length (a ∷ b ∷ c ∷ rest)) ≡ true = lt-ltb 2 (length (a ∷ b ∷ c ∷ rest)) (omega arith) in
-    let here : cond ((a == 45) && ((b == 45) && true)) (Some (c ∷ rest)) None ≡ Some text = ap (λ x. cond (x && ((a == 45) && ((b == 45) && true))) (Some (c ∷ rest)) None) (sym many) ∙ e in
-    let both = cond_some ((a == 45) && ((b == 45) && true)) (c ∷ rest) text here in
-    let first = and_parts (a == 45) ((b == 45) && true) both.0 in
-    let second = (and_parts (b == 45) true first.1).0 in
-    record {
-      plain = ap not first.0;
-      says = e;
-      dashes = ap₂ (λ x y. x && (y && false)) first.0 second;
-      long = ap (λ x. option_and_then long_of_rest (option_and_then (strip_byte 45) (cond x (Some (b ∷ c ∷ rest)) None))) first.0
-          ∙ ap (λ y. option_and_then long_of_rest (cond y (Some (c ∷ rest)) None)) second
-          ∙ ap (λ t. Some (name_before t, value_behind t)) both.1;
-      named = named_text text (and_parts (begins_without 61 text) (option_map_or is_plain (value_behind text) true) legal).0;
-    }
-
 legal_word : (word : Text) → is_legal word ≡ true → PlainWord word ⊎ ((text : Text) × LongWord word text)
-legal_word word e = go (is_plain word) (option_text word) refl refl e
-  where
-    go : (b : Bool) (o : Option Text) → is_plain word ≡ b → option_text word ≡ o
-        → (b || option_map_or is_legal_text o false) ≡ true → PlainWord word ⊎ ((text : Text) × LongWord word text)
-    go true o p t e = inl (plain_word word p)
-    go false None p t e = absurd (true≢false (sym e))
-    go false (Some text) p t e = inr (text, long_word word text t e)
+legal_word word e = grind (arith, common_steps)
 
 -- ---- items
 
 -- one more item
 once-push : (items : List GivenArgument) (item : GivenArgument) → each_once (items ++ item ∷ []) ≡ (each_once items && not (is_given item.name items))
 once-push [] item = refl
-once-push (first ∷ items) item =
-    ap₂ (λ a b. not a && b) (list_any-append (λ (i : GivenArgument). bytes_eq i.name first.name) items (item ∷ [])) (once-push items item)
-    ∙ ap (λ b. not (is_given first.name items || (b || false)) && (each_once items && not (is_given item.name items))) (same-sym item.name first.name)
-    ∙ moved (is_given first.name items) (bytes_eq first.name item.name) (each_once items) (is_given item.name items)
-  where
-    moved : (a b c d : Bool) → (not (a || (b || false)) && (c && not d)) ≡ ((not a && c) && not (b || d))
-    moved true b c d = refl
-    moved false true true d = refl
-    moved false true false d = refl
-    moved false false c d = refl
+once-push (first ∷ items) item = grind (arith, common_steps, once-push items item, list_any-append, same-sym)
 
 -- items of which two have one name, before others
 once-prefix : (items later : List GivenArgument) → each_once items ≡ false → each_once (items ++ later) ≡ false
-once-prefix [] later e = absurd (true≢false e)
-once-prefix (first ∷ items) later e = elim (and_cases (not (is_given first.name items)) (each_once items) e) [
-  | inl again ↦ and_left (not (is_given first.name (items ++ later))) (each_once (items ++ later))
-      (ap not (list_any-append (λ (i : GivenArgument). bytes_eq i.name first.name) items later ∙ or_left (is_given first.name items) (is_given first.name later) (not-false (is_given first.name items) again)))
-  | inr rest ↦ and_right (not (is_given first.name (items ++ later))) (each_once (items ++ later)) (once-prefix items later rest)
-]
+once-prefix [] later e = grind (arith, common_steps)
+once-prefix (first ∷ items) later e = grind (arith, common_steps, once-prefix items later, list_any-append)
 
 operand-push : (items : List GivenArgument) (name value : Text) → is_given operand (items ++ given name value ∷ []) ≡ (is_given operand items || (bytes_eq name operand || false))
 operand-push items name value = list_any-append (λ (i : GivenArgument). bytes_eq i.name operand) items (given name value ∷ [])
@@ -120,15 +65,11 @@ abbrev before : List GivenArgument → Option (List GivenArgument) → Option (L
 before items more = option_map (λ later. items ++ later) more
 
 before-item : (items : List GivenArgument) (item : GivenArgument) (more : Option (List GivenArgument)) → before (items ++ item ∷ []) more ≡ before items (option_map (λ later. item ∷ later) more)
-before-item items item None = refl
-before-item items item (Some later) = ap Some (append_assoc items (item ∷ []) later)
+before-item items item more = grind (arith, common_steps)
 
 -- the values that rows tell, and those of items
 abbrev pub values_at : List Row → Text → Option Text
 values_at rows name = contents (find (λ r. bytes_eq r.id name) rows)
-
-abbrev item_values : List GivenArgument → Text → Option Text
-item_values items name = argument_value name items
 
 -- the rows that a parse is to give for items
 module _ (choices : List Choice) where
@@ -139,8 +80,7 @@ module _ (choices : List Choice) where
   wanted items = option_and_then (λ all. rows_when (is_whole choices all) all) items
 
   unwanted : (items : List GivenArgument) (more : Option (List GivenArgument)) → each_once items ≡ false → wanted (before items more) ≡ None
-  unwanted items None e = refl
-  unwanted items (Some later) e = ap (λ b. rows_when (b && not (lacks_some choices (items ++ later))) (items ++ later)) (once-prefix items later e)
+  unwanted items more e = grind (arith, common_steps, once-prefix)
 
   unwanted_again : (items : List GivenArgument) (item : GivenArgument) (more : Option (List GivenArgument)) → is_given item.name items ≡ true → wanted (before items (option_map (λ later. item ∷ later) more)) ≡ None
   unwanted_again items item more again =
@@ -148,11 +88,7 @@ module _ (choices : List Choice) where
 
   -- they tell the values of the items
   pub values-wanted : (items : Option (List GivenArgument)) → option_and_then (values_in choices) items ≡ option_map values_at (wanted items)
-  values-wanted None = refl
-  values-wanted (Some all) = elim (is_whole choices all) as (λ b. cond b (Some (item_values all)) None ≡ option_map values_at (rows_when b all)) [
-    | true ↦ ap Some (sym (λ i name. rows_known choices name all i))
-    | false ↦ refl
-  ]
+  values-wanted items = grind (arith, common_steps, rows_known)
 
 module _ (choices : List Choice) where
   abbrev rules : List Rule
@@ -181,8 +117,7 @@ module _ (choices : List Choice) where
   read_from w words = let end = (fold (walked rules []) w words).held in outcome (or_else (walk_fault shape [] w words) (end_fault end)) (finished rules end)
 
   nonempty_first : (a b : Kinds) → is_empty a ≡ false → is_empty (or_else a b) ≡ false
-  nonempty_first [] b e = absurd (true≢false e)
-  nonempty_first (k ∷ ks) b e = e
+  nonempty_first a b e = grind (arith, common_steps)
 
   -- ---- one word
 
@@ -207,14 +142,12 @@ module _ (choices : List Choice) where
   walk_at h waiting observed = record { held = h; waiting = waiting; position = cond observed 2 1; is_trailing = false; stopped = None }
 
   quiet : (waiting : Waiting) (word : Text) → subcommand_met [] waiting word ≡ None
-  quiet idle word = refl
-  quiet (option id) word = refl
-  quiet positional word = refl
+  quiet waiting word = grind (arith, common_steps)
 
   plain_turn : (waiting : Waiting) (observed : Bool) (word : Text) (h : Held) → PlainWord word
       → turn (walk_at h waiting observed) word ≡ turned (walk_at h waiting observed) word [] (plain_met rules waiting word h)
   unfolding walked
-  plain_turn waiting observed word h w = rw (quiet waiting word, w.dashes, w.long, w.short) refl
+  plain_turn waiting observed word h w = grind (arith, common_steps, quiet)
 
   abbrev fault_by : Option Choice → Option Text → Held → Kinds
   fault_by o v h = long_fault rules false (option_map choice_rule o) v h
@@ -247,7 +180,7 @@ module _ (choices : List Choice) where
   ready_at items once = record { fault = sym (ap conflict once); rows = λ all. refl }
 
   once-fresh : (items : List GivenArgument) (item : GivenArgument) → each_once items ≡ true → each_once (items ++ item ∷ []) ≡ not (is_given item.name items)
-  once-fresh items item once = once-push items item ∙ ap (λ b. b && not (is_given item.name items)) once
+  once-fresh items item once = grind (arith, common_steps, once-push)
 
   pending_ready : (items : List GivenArgument) (id : Text) (long : Option Text) (index : Option ℕ) (required : Bool) (value : Text) → each_once items ≡ true
       → arg_by_id rules id ≡ Some (ruled id long index true required) → IsReady (held_at items (Some (id, value ∷ []))) (items ++ given id value ∷ [])
@@ -259,7 +192,7 @@ module _ (choices : List Choice) where
   }
 
   faulty : (h : Held) (items : List GivenArgument) → IsReady h items → each_once items ≡ false → is_empty (settle_fault rules false h) ≡ false
-  faulty h items ready twice = ap is_empty (ready.fault ∙ ap conflict twice)
+  faulty h items ready twice = grind (arith, common_steps)
 
   -- ---- the end of the words
 
@@ -270,20 +203,7 @@ module _ (choices : List Choice) where
       ∙ ap (λ b. not (is_given operand items) || b) (sym (list_any-map (λ (a : Rule). a.required && not (is_given a.id items)) choice_rule choices)))
 
   ended : (h : Held) (items : List GivenArgument) → IsReady h items → outcome (end_fault h) (finished rules h) ≡ wanted choices (Some items)
-  ended h items ready = elim (cases_Bool (each_once items)) [
-    | inr twice ↦ ap (λ b. cond b (Some (finished rules h)) None) (nonempty_first (settle_fault rules false h) _ (faulty h items ready twice))
-        ∙ sym (ap (λ b. rows_when choices (b && not (lacks_some choices items)) items) twice)
-    | inl once ↦
-        let rows : finished rules h ≡ with_defaults choices (map row items) = ap (λ (k : Held). with_defaults choices k.rows) (ready.rows once) in
-        let kinds : end_fault h ≡ cond (lacks_some choices items) (kind.MissingRequiredArgument ∷ []) [] =
-        ap₂ (λ a b. or_else a (or_else b (check_fault shape (finished rules h) false))) (ready.fault ∙ ap conflict once) (defaults_pass choices (settled rules h).rows)
-        ∙ ap (λ rs. check_fault shape rs false) rows ∙ check-is items in
-        ap₂ outcome kinds rows ∙ complete (lacks_some choices items) ∙ sym (ap (λ b. rows_when choices (b && not (lacks_some choices items)) items) once)
-  ]
-    where
-      complete : (b : Bool) → outcome (cond b (kind.MissingRequiredArgument ∷ []) []) (with_defaults choices (map row items)) ≡ rows_when choices (not b) items
-      complete true = refl
-      complete false = refl
+  ended h items ready = grind (arith, common_steps, faulty, nonempty_first, defaults_pass, check-is)
 
   -- ---- a plain word
 
@@ -300,8 +220,7 @@ module _ (choices : List Choice) where
       ∙ ap (λ b. (cond b [] (settle_fault rules false h), walk_at (pushed operand word (cond b h (settled rules h))) idle true)) (and_false (is_pending operand_rule h.pending))
 
   second_fault : (word : Text) (h : Held) → PlainWord word → turn_fault shape [] (walk_at h idle true) word ≡ kind.UnknownArgument ∷ []
-  second_fault word h w = ap (λ (p : Kinds × Walk). p.0) (plain_turn idle true word h w)
-      ∙ ap (λ o. option_map_or (λ a. cond (is_pending a h.pending && takes_several a) [] (settle_fault rules false h)) o (kind.UnknownArgument ∷ [])) (no_second choices)
+  second_fault word h w = grind (arith, common_steps, plain_turn, no_second)
 
   -- the value of an option
   value_turn : (name word : Text) (items : List GivenArgument) (observed required : Bool) → PlainWord word → IsKnown choices name true required
@@ -316,14 +235,7 @@ module _ (choices : List Choice) where
   -- ---- a long word where what is pending is refused
 
   blocked : (o : Option Choice) (v : Option Text) (h : Held) → is_empty (settle_fault rules false h) ≡ false → is_empty (fault_by o v h) ≡ false
-  blocked None v h e = refl
-  blocked (Some choice) v h e = go choice.name choice.has_value choice.is_required v
-    where
-      go : (name : Text) (has_value required : Bool) (v : Option Text) → is_empty (fault_by (Some (record { name = name; has_value = has_value; is_required = required })) v h) ≡ false
-      go name true required (Some v) = nonempty_first (settle_fault rules false h) _ e
-      go name true required None = e
-      go name false required (Some v) = refl
-      go name false required None = nonempty_first (settle_fault rules false h) _ e
+  blocked o v h e = grind (arith, common_steps, nonempty_first)
 
   long_stops : (waiting : Waiting) (observed : Bool) (word text : Text) (words : List Text) (h : Held) → LongWord word text → is_empty (settle_fault rules false h) ≡ false
       → read_from (walk_at h waiting observed) (word ∷ words) ≡ None

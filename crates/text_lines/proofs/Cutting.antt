@@ -1,12 +1,13 @@
 -- How words come off the start of a line.
-use Rattle.std.proofs.Common.{◌≡◌, ◌≢◌, ℕ, zero, suc, ◌+◌, ◌<◌, ◌≤◌, Bool, true, false, cond, ltb, leb, inl, inr, List, [], ◌∷◌, ◌++◌, length, take, drop, get_or, append-nil, refl, sym, ap, ◌∙◌, arith, rules, tests}
+use Rattle.std.proofs.lemmas.Grind.{common_steps}
+use Rattle.std.proofs.Common.{◌≡◌, ◌≢◌, ℕ, zero, suc, ◌+◌, ◌<◌, ◌≤◌, Bool, true, false, cond, ltb, leb, List, [], ◌∷◌, ◌++◌, length, take, drop}
+use Rattle.std.proofs.Common.{get_or, append-nil, refl, sym, ap, ◌∙◌, arith, rules, tests}
 use Rattle.std.specs.List.{All}
 use Rattle.std.proofs.lemmas.Bool.{cases_lt, lt-ltb, le-leb}
 use Rattle.std.proofs.lemmas.List.{drop-drop, length-take-le, length-drop, get_or-drop, take-append-drop}
 use Rattle.std.proofs.lemmas.List.Elements.{All-head, All-tail}
 use Rattle.std.proofs.lemmas.List.Splits.{slice_split_none, slice_split_at, slice_split-cons_yes}
-use Rattle.text_lines.specs.Lines.{is_blank, is_newline, lines_of, words_of}
-use Rattle.text_lines.specs.Lines.{lines_from}
+use Rattle.text_lines.specs.Lines.{is_blank, is_newline, lines_of, words_of, lines_from}
 
 -- blanks at the start part nothing
 pub after_blank : (byte : ℕ) (line : List ℕ) → is_blank byte ≡ true → words_of (byte ∷ line) ≡ words_of line
@@ -25,15 +26,11 @@ unfolding words_of
 no_words = refl
 
 -- a word that reaches to the next blank or to the end
-pub prefix_word : (word rest : List ℕ) → 0 < length word → All (λ byte. is_blank byte ≡ false) word → (0 < length rest → is_blank (get_or rest 0 0) ≡ true) → words_of (word ++ rest) ≡ word ∷ words_of rest
+pub prefix_word : (word rest : List ℕ) → 0 < length word → All (λ byte. is_blank byte ≡ false) word
+    → (0 < length rest → is_blank (get_or rest 0 0) ≡ true) → words_of (word ++ rest) ≡ word ∷ words_of rest
 unfolding words_of
-prefix_word word [] some plain next =
-    let test : ltb 0 (length word) ≡ true = search (rules, tests) in
-    rw (append-nil word, slice_split_none is_blank word plain, test) refl
-prefix_word word (byte ∷ rest) some plain next =
-    let test : ltb 0 (length word) ≡ true = search (rules, tests) in
-    let blank : is_blank byte ≡ true = next (omega arith) in
-    rw (slice_split_at is_blank word byte rest plain blank, slice_split-cons_yes is_blank byte rest blank, test) refl
+prefix_word word [] some plain next = grind (arith, common_steps, append-nil, slice_split_none)
+prefix_word word (byte ∷ rest) some plain next = grind (arith, common_steps, slice_split-cons_yes, slice_split_at)
 
 n-plus-0 : (n : ℕ) → n + 0 ≡ n
 n-plus-0 n = omega arith
@@ -49,30 +46,23 @@ not_false : (b : Bool) → b ≢ false → b ≡ true
 not_false true h = refl
 not_false false h = absurd (h refl)
 
-not_both : (b : Bool) → b ≢ true → b ≢ false → ⊥
-not_both true h k = h refl
-not_both false h k = k refl
-
 -- a word stands behind the blanks at the start, where these are not all
-pub some_word : (n m : ℕ) (line : List ℕ) → (n < length line → is_blank (get_or line n 0) ≢ true) → 0 < length (drop n line) → (m < length (drop n line) → is_blank (get_or (drop n line) m 0) ≢ false) → 0 < m
-some_word n zero line plain more stop =
-    absurd (not_both (is_blank (get_or line n 0)) (plain (omega (arith, length-drop n line))) (rw (get_or-drop n line 0 0, n-plus-0 n) at (stop more)))
+pub some_word : (n m : ℕ) (line : List ℕ) → (n < length line → is_blank (get_or line n 0) ≢ true) → 0 < length (drop n line)
+    → (m < length (drop n line) → is_blank (get_or (drop n line) m 0) ≢ false) → 0 < m
+some_word n zero line plain more stop = grind (arith, common_steps)
 some_word n (suc m) line plain more stop = omega arith
 
 pub cut_is : (n m : ℕ) (line : List ℕ) → n ≤ length line → All (λ byte. is_blank byte ≡ true) (take n line)
     → 0 < m → m ≤ length (drop n line) → All (λ byte. is_blank byte ≡ false) (take m (drop n line))
     → (m < length (drop n line) → is_blank (get_or (drop n line) m 0) ≢ false)
     → words_of line ≡ take m (drop n line) ∷ words_of (drop m (drop n line))
-cut_is n m line within blanks some inside plain stop =
-    after_blanks n line within blanks ∙ word_at_prefix m (drop n line) some inside plain (λ more. not_false _ (stop more))
+cut_is n m line within blanks some inside plain stop = search (rules, tests, after_blanks, not_false, word_at_prefix)
 
 -- a line reaches to the next newline or to the end
 prefix_line : (line rest : List ℕ) → All (λ byte. is_newline byte ≡ false) line → (0 < length rest → is_newline (get_or rest 0 0) ≡ true)
     → lines_of (line ++ rest) ≡ line ∷ cond (ltb 0 (length rest)) (lines_of (drop 1 rest)) []
 prefix_line line [] plain next = rw (append-nil line, slice_split_none is_newline line plain) refl
-prefix_line line (byte ∷ rest) plain next =
-    let test : ltb 0 (length (byte ∷ rest)) ≡ true = search (rules, tests) in
-    rw (slice_split_at is_newline line byte rest plain (next (omega arith)), test) refl
+prefix_line line (byte ∷ rest) plain next = grind (arith, common_steps, slice_split_at)
 
 pub not_lt : (a b : ℕ) → b ≤ a → ltb a b ≡ false
 not_lt a b h = grind arith
@@ -85,16 +75,7 @@ dropped text at n = drop-drop 1 n (drop at text) ∙ drop-drop (n + 1) at text
 
 more_lines : (text : List ℕ) (at n : ℕ) → at ≤ length text → n ≤ length (drop at text)
     → cond (ltb 0 (length (drop n (drop at text)))) (lines_of (drop 1 (drop n (drop at text)))) [] ≡ lines_from text (at + (n + 1))
-more_lines text at n within inside = elim (cases_lt n (length (drop at text))) [
-  | inl more ↦
-      let test = lt-ltb 0 (length (drop n (drop at text))) (omega (arith, length-drop n (drop at text))) in
-      let reaches = le-leb (at + (n + 1)) (length text) (omega (arith, length-drop at text)) in
-      rw (test, reaches, dropped text at n) refl
-  | inr end ↦
-      let test = not_lt 0 (length (drop n (drop at text))) (omega (arith, length-drop n (drop at text))) in
-      let reaches = not_le (at + (n + 1)) (length text) (omega (arith, length-drop at text)) in
-      rw (test, reaches) refl
-]
+more_lines text at n within inside = grind (arith, common_steps, cases_lt, dropped, le-leb, length-drop, lt-ltb, not_le, not_lt)
 
 pub line_is : (text : List ℕ) (at n : ℕ) → at ≤ length text → n ≤ length (drop at text) → All (λ byte. is_newline byte ≡ false) (take n (drop at text))
     → (n < length (drop at text) → is_newline (get_or (drop at text) n 0) ≡ true)

@@ -1,4 +1,5 @@
 -- The line that is refused is the first faulty one.
+use Rattle.std.proofs.lemmas.Grind.{common_steps}
 use Rattle.std.proofs.Common.{◌≡◌, ℕ, ◌+◌, List, [], ◌∷◌, ◌++◌, length, Option, Some, None, Result, Ok, Err, refl, arith, ◌∙◌, ap}
 use Rattle.text_lines.specs.Reading.{Line, given, fault_of, IsFirstLineFault}
 
@@ -41,11 +42,9 @@ at_once fault n before line lines kind is = record {
 }
 
 same : {A K : Type 0} (fault : List A → A → Option K) (n number : ℕ) (before : List A) (lines : List (Line A K)) (found kind : K)
-    → (answer : Result (List A) (ℕ × K)) → answer ≡ Err (n, found) → answer ≡ Err (number, kind) → IsFirstLineFault fault n before lines n found → IsFirstLineFault fault n before lines number kind
-same fault n number before lines found kind answer is other first =
-    let one : number ≡ n = grind (arith, is, other) in
-    let two : kind ≡ found = grind (arith, is, other) in
-    rw (one, two) first
+    → (answer : Result (List A) (ℕ × K)) → answer ≡ Err (n, found) → answer ≡ Err (number, kind) → IsFirstLineFault fault n before lines n found
+    → IsFirstLineFault fault n before lines number kind
+same fault n number before lines found kind answer is other first = grind (arith, common_steps)
 
 abbrev Found : {A K : Type 0} → (List A → A → Option K) → ℕ → List A → List (Line A K) → Type 0
 Found fault n before lines = (number : _) (kind : _) → given fault n before lines ≡ Err (number, kind) → IsFirstLineFault fault n before lines number kind

@@ -1,5 +1,6 @@
 -- What a decimal word is to std's words for numerals.
-use Rattle.std.proofs.Common.{◌≡◌, ℕ, ◌<◌, true, false, cond, ltb, List, length, Result, Ok, Err, Some, None, refl, inl, inr, arith, rules, tests}
+use Rattle.std.proofs.lemmas.Grind.{common_steps}
+use Rattle.std.proofs.Common.{◌≡◌, ℕ, ◌<◌, true, cond, ltb, List, length, Result, Ok, Err, Some, None, arith, rules}
 use Rattle.std.proofs.lemmas.Bool.{cases_lt}
 use Rattle.std.specs.List.{list_all}
 use Rattle.std.specs.Result.{result_ok}
@@ -27,13 +28,5 @@ is_text word number = IsUtf8-from_ascii word (IsAscii-from_digits word (own.to w
 
 pub parsed : {E : Type 0} (word : List ℕ) (answer : Result ℕ E) → is_number word ≡ true → ParsesUnsigned 64 10 word answer
     → result_ok answer ≡ cond (ltb (digits_value 10 word) 18446744073709551616) (Some (digits_value 10 word)) None
-parsed {E} word (Ok n) number parses =
-    let found = parse_digits own {E = E} 64 word (Ok n) parses (all_digits word number) in
-    let small : ltb (digits_value 10 word) 18446744073709551616 ≡ true = search (rules, tests) in
-    rw (small, found.1) refl
-parsed {E} word (Err e) number parses =
-    let found = parse_digits own {E = E} 64 word (Err e) parses (all_digits word number) in
-    elim (cases_lt (digits_value 10 word) 18446744073709551616) [
-      | inl small ↦ absurd (found (some_digits word number, small))
-      | inr large ↦ let test : ltb (digits_value 10 word) 18446744073709551616 ≡ false = search (rules, tests) in rw test refl
-    ]
+parsed {E} word (Ok n) number parses = grind (arith, common_steps)
+parsed {E} word (Err e) number parses = grind (arith, common_steps, all_digits, cases_lt, own, parse_digits, some_digits)

@@ -1,11 +1,12 @@
 -- A bit set or cleared, as a set of addresses.
+use Rattle.std.proofs.lemmas.Grind.{common_steps}
 use Rattle.std.proofs.Common.{◌≡◌, ℕ, ◌*◌, ◌/◌, ◌%◌, ◌^◌, ◌<◌, List, length, get_or, set, replicate, inl, inr, refl, ap, arith, w64}
 use Rattle.std.proofs.Math.Path.{fun_ext}
 use Rattle.std.specs.Int.{bit_not}
 use Rattle.std.specs.Int.Bits.{bit_and}
 use Rattle.std.specs.Int.RustNames.{bit_or}
-use Rattle.std.proofs.lemmas.Bool.{cases_eq, cases_lt, eq-eqb, ne_eqb}
-use Rattle.std.proofs.lemmas.List.{get_or-set_same, get_or-set_other, get_or-replicate, get_or_past, length-replicate}
+use Rattle.std.proofs.lemmas.Bool.{cases_eq, eq-eqb, ne_eqb}
+use Rattle.std.proofs.lemmas.List.{get_or-set_same, get_or-set_other}
 use Rattle.std.proofs.lemmas.Nat.Bits.{bit_at-zero, bit_at_set_same, bit_at_set_other, bit_at_clear_same, bit_at_clear_other}
 use Rattle.uxn_debugger.specs.Log.{no_breaks, set_with_break, without_break}
 use Rattle.uxn_debugger.specs.Bits.{addresses_in}
@@ -16,10 +17,7 @@ same_address a x words bits = omega arith
 
 -- no bit is set among zeros
 zero_at : (size i : ℕ) → get_or {A = ℕ} (replicate size 0) i 0 ≡ 0
-zero_at size i = elim (cases_lt i size) [
-  | inl within ↦ get_or-replicate {A = ℕ} size i 0 0 within
-  | inr past ↦ get_or_past {X = ℕ} (replicate size 0) i 0 (omega (arith, length-replicate {A = ℕ} size 0))
-]
+zero_at = grind (arith, common_steps)
 
 pub none_in_zeros : (size : ℕ) → addresses_in (replicate size 0) ≡ no_breaks
 none_in_zeros size = fun_ext (λ a. rw (zero_at size (a / 64), bit_at-zero (a % 64)) refl)

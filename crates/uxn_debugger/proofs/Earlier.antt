@@ -1,9 +1,12 @@
 -- What is kept of the moments before one, and what is observed by it.
-use Rattle.std.proofs.Common.{◌≡◌, ℕ, zero, suc, ◌+◌, ◌-◌, ◌%◌, ◌<◌, ◌≤◌, true, false, cond, List, [], ◌∷◌, length, take, drop, Option, Some, None, refl, sym, ap, ◌∙◌, arith}
-use Rattle.std.specs.Prelude.{slice_get, map, option_map, nat_lt, ◌==◌}
+use Rattle.std.proofs.lemmas.Grind.{common_steps}
+use Rattle.std.proofs.Common.{rules}
+use Rattle.std.proofs.Common.{◌≡◌, ℕ, zero, suc, ◌+◌, ◌-◌, ◌%◌, ◌<◌, ◌≤◌, false, cond, List, [], ◌∷◌, length, take, drop, Option, Some, None, refl}
+use Rattle.std.proofs.Common.{sym, ap, ◌∙◌, arith}
+use Rattle.std.specs.Prelude.{slice_get, map, option_map, ◌==◌}
 use Rattle.std.proofs.Math.Path.{fun_ext}
 use Rattle.std.proofs.lemmas.Bool.Decides.{nat_tests}
-use Rattle.std.proofs.lemmas.List.{drop-map, length-map, length-reverse, length-take, length-take-le}
+use Rattle.std.proofs.lemmas.List.{drop-map, length-map}
 use Rattle.std.proofs.lemmas.Option.{slice_get-map, slice_get_past}
 use Rattle.uxn_opcodes.specs.declared.Core.{Core}
 use Rattle.tal_words.specs.declared.name.Label.{Label}
@@ -32,9 +35,7 @@ module _ (labels : List Label) (moments : List Shown) (end : Shown) where
   undo_at i = holding (kept_before i)
 
   length_kept : (i : ℕ) → i ≤ length moments → length (kept_before i) ≡ i
-  length_kept i le =
-      length-map (given_before labels moments end i) kept_of ∙ length-reverse (take i (map moment_of_shown moments))
-      ∙ length-take-le i (map moment_of_shown moments) (omega (arith, length-map moments moment_of_shown))
+  length_kept = grind (arith, common_steps)
 
   given_next : (i : ℕ) (s : Shown) (left : List Shown) → drop i moments ≡ s ∷ left
       → given_before labels moments end (i + 1) ≡ moment_of_shown s ∷ given_before labels moments end i
@@ -44,8 +45,7 @@ module _ (labels : List Label) (moments : List Shown) (end : Shown) where
 
   module _ (laws : UndoLaws) where
     pub held_within : (i : ℕ) → i ≤ length moments → length (undo_at i) ≤ i
-    held_within i le =
-        omega (arith, ap length (laws.holding.newest (kept_before i)), length-take (length (undo_at i)) (kept_before i), length_kept i le)
+    held_within = grind (arith, common_steps)
 
     -- one more is kept
     pub keeps : (i : ℕ) (s : Shown) (left : List Shown) → drop i moments ≡ s ∷ left
@@ -98,9 +98,7 @@ module _ (labels : List Label) (moments : List Shown) (end : Shown) where
 
       gone_observed : (furthest index : ℕ) (s : Shown) (more : List Shown) → drop index moments ≡ s ∷ more → index < furthest
           → view_at labels moments end furthest index ≡ gone s
-      gone_observed furthest index s more is less =
-          let passed : nat_lt index furthest ≡ true = grind (arith, nat_tests) in
-          rw passed (ap (observed labels moments end true) (get_at moments index s more is))
+      gone_observed = search (arith, rules, get_at, nat_tests)
 
       kept_observed : (i less : ℕ) (core : Core) (page : List ℕ) (place : Place) → IsCome i core place → less < length (undo_at i)
           → observed_view (view core page place) (undo_at i) (suc less) (slice_get (undo_at i) less) ≡ view_at labels moments end i (i - suc less)
@@ -140,9 +138,7 @@ module _ (labels : List Label) (moments : List Shown) (end : Shown) where
       -- at a moment, and at the end
       view_now : (i : ℕ) (one : Option Shown) (now : MomentView) → slice_get moments i ≡ one → observed labels moments end false one ≡ now
           → now ≡ view_at labels moments end i i
-      view_now i one now here is =
-          let still : nat_lt i i ≡ false = grind (arith, nat_tests) in
-          sym (ap (λ b. observed labels moments end b (slice_get moments i)) still ∙ ap (observed labels moments end false) here ∙ is)
+      view_now = search (arith, rules)
 
       pub now_before : (i : ℕ) (s : Shown) (left : List Shown) → drop i moments ≡ s ∷ left → before s ≡ view_at labels moments end i i
       now_before i s left is = view_now i (Some s) (before s) (get_at moments i s left is) refl
@@ -151,15 +147,7 @@ module _ (labels : List Label) (moments : List Shown) (end : Shown) where
       now_at_end i is = view_now i None (at_end end) (slice_get_past moments i (omega arith)) refl
 
       pub comes_before : (i : ℕ) (s : Shown) (left : List Shown) → drop i moments ≡ s ∷ left → IsCome i s.core (Before s.moment)
-      comes_before i s left is = record {
-        moments_before = omega (arith, within moments i s left is);
-        counted = regular.counts i s (get_at moments i s left is);
-        memory = ap (λ given. memory_next given end.core.memory) (drop-map moment_of_shown i moments ∙ ap (map moment_of_shown) is);
-      }
+      comes_before = search (arith, rules, drop-map, get_at, within)
 
       pub comes_at_end : (i : ℕ) → i ≡ length moments → drop i moments ≡ [] → IsCome i end.core (End end.moment)
-      comes_at_end i is none = record {
-        moments_before = omega arith;
-        counted = regular.count ∙ sym is;
-        memory = ap (λ given. memory_next given end.core.memory) (drop-map moment_of_shown i moments ∙ ap (map moment_of_shown) none);
-      }
+      comes_at_end = grind (arith, common_steps)

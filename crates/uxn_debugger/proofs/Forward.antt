@@ -1,16 +1,16 @@
 -- Commands of which none goes back leave the same log where no moment is kept.
-use Rattle.std.proofs.Common.{◌≡◌, ◌-◌, false, List, [], ◌∷◌, Option, Some, None, inl, inr, refl, sym, ap, ◌∙◌, arith}
+use Rattle.std.proofs.Common.{◌≡◌, false, List, [], ◌∷◌, Option, inl, inr, refl, sym, ap, arith, rules}
 use Rattle.std.specs.Prelude.{fold}
 use Rattle.std.specs.List.{list_any}
 use Rattle.std.proofs.lemmas.Bool.{cases_Bool, false≢true}
 use Rattle.debug_commands.specs.declared.command.DebugCommand.{DebugCommand}
 use Rattle.debug_commands.specs.declared.command.DebugCommand.TheVariants.{Step, Back}
 use Rattle.uxn_debugger.specs.declared.place.Place.{Place}
-use Rattle.uxn_debugger.specs.declared.place.Place.TheVariants.{Before, End}
 use Rattle.uxn_debugger.specs.declared.place.Goal.{Goal}
 use Rattle.uxn_debugger.specs.Printing.{MomentView}
 use Rattle.uxn_debugger.specs.Log.{Shown, before, at_end}
-use Rattle.uxn_debugger.specs.Watching.{Watching, is_back, next_stop, goal_of, did, unless_it_goes, done, with_arrival, arrived, is_awaited, is_nothing, with_kept, shown, ended}
+use Rattle.uxn_debugger.specs.Watching.{Watching, is_back, next_stop, goal_of, unless_it_goes, done, with_arrival, arrived, is_awaited, is_nothing}
+use Rattle.uxn_debugger.specs.Watching.{with_kept, shown, ended}
 
 -- a debugger that keeps no moment
 abbrev without_moments : Watching → Watching
@@ -24,24 +24,19 @@ record IsSame (one two : Watching) : Type 0 where
 -- the moment that is shown is not read from what is kept
 same_goal : (held : Watching) (place : Place) (command : DebugCommand) → goal_of (without_moments held) place 0 command ≡ goal_of held place 0 command
 unfolding next_stop
-same_goal held (Before moment) command = refl
-same_goal held (End moment) command = refl
+same_goal = search (arith, rules)
 
 goes_or_not : (first goal : Option Goal) (rest : List DebugCommand) (held one two : Watching) → first ≡ goal → list_any is_back rest ≡ false → IsSame one two
     → IsSame (unless_it_goes first rest (without_moments held) one) (unless_it_goes goal rest held two)
-goes_or_not first (Some goal) rest held one two is none others = rw is (record { same = refl; none = none })
-goes_or_not first None rest held one two is none others = rw is others
+goes_or_not = search (arith, rules)
 
 all_done : (now : MomentView) (commands : List DebugCommand) (held : Watching) → list_any is_back commands ≡ false
     → IsSame (done now 0 commands (without_moments held)) (done now 0 commands held)
 unfolding done next_stop
 all_done now [] held none = record { same = refl; none = refl }
-all_done now (Step count ∷ rest) held none =
-    let here : 0 - count ≡ 0 = omega arith in
-    goes_or_not _ _ rest held _ _ (same_goal held now.place (Step count)) none (rw here (all_done now rest (did now 0 (Step count) held) none))
+all_done now (Step count ∷ rest) held none = search (arith, rules, goes_or_not, same_goal, all_done now rest)
 all_done now (Back count ∷ rest) held none = absurd (false≢true (sym none))
-all_done now (command ∷ rest) held none =
-    goes_or_not _ _ rest held _ _ (same_goal held now.place command) none (all_done now rest (did now 0 command held) none)
+all_done now (command ∷ rest) held none = search (arith, rules, goes_or_not, same_goal, all_done now rest)
 
 -- a moment is shown
 with_same : (s : Shown) (one two : Watching) → IsSame one two → IsSame (with_kept s one) (with_kept s two)
@@ -68,6 +63,4 @@ end_shown end held none = elim (cases_Bool (is_nothing held.goal)) [
 
 pub log_without : (moments : List Shown) (end : Shown) (held : Watching) → list_any is_back held.commands ≡ false
     → (ended (fold shown (without_moments held) moments) end).log ≡ (ended (fold shown held moments) end).log
-log_without moments end held none =
-    let all = all_shown moments (without_moments held) held (record { same = refl; none = none }) in
-    ap (λ w. (ended w end).log) all.same ∙ end_shown end (fold shown held moments) all.none
+log_without = search (arith, rules, all_shown, end_shown)

@@ -1,8 +1,10 @@
 -- A debugger that is shown a run moment by moment keeps the log of the whole run.
+use Rattle.std.proofs.lemmas.Grind.{common_steps}
+use Rattle.std.proofs.Common.{rules}
 use Rattle.std.proofs.Common.{◌≡◌, ℕ, ◌+◌, ◌-◌, ◌<◌, ◌≤◌, Bool, true, false, cond, List, [], ◌∷◌, ◌++◌, length, drop, Option, Some, None, ◌⊎◌, inl, inr, refl, sym, ap, ◌∙◌, arith}
 use Rattle.std.specs.Prelude.{fold, min, max, nat_le}
 use Rattle.std.specs.List.{position_or_len, list_any}
-use Rattle.std.proofs.lemmas.Bool.{cases_Bool, false≢true, eqb-true, eqb-false}
+use Rattle.std.proofs.lemmas.Bool.{cases_Bool}
 use Rattle.std.proofs.lemmas.Bool.Decides.{nat_tests}
 use Rattle.std.proofs.lemmas.List.{length-drop}
 use Rattle.tal_words.specs.declared.name.Label.{Label}
@@ -18,7 +20,7 @@ use Rattle.uxn_debugger.specs.Log.{Shown, before, at_end, AddressSet, IsRegular,
 use Rattle.uxn_debugger.specs.Watching.{Watching, is_back, new_watching, observed_back, next_stop, back_after, unless_stopped, goal_of, obeyed, done, unless_it_goes, arrival, arrived, is_awaited, goal_later, with_kept, shown, ended, KeepsTheLog}
 use Rattle.uxn_debugger.proofs.Obeying.{done-none, done-more}
 use Rattle.uxn_debugger.proofs.Forward.{log_without}
-use Rattle.uxn_debugger.proofs.Places.{within, drop_next, first_passes, first_fails}
+use Rattle.uxn_debugger.proofs.Places.{within, drop_next}
 use Rattle.uxn_debugger.proofs.Earlier.{UndoLaws, undo_at, held_within, keeps, sees_back, now_before, now_at_end, comes_before, comes_at_end}
 use Rattle.uxn_debugger.proofs.Turns.{met_behind, IsFound, Finds, finds_before, finds_at_end}
 
@@ -85,8 +87,7 @@ module _ (labels : List Label) (moments : List Shown) (end : Shown) where
     -- so many moments can be gone back
     reaches : (i back : ℕ) (breaks : AddressSet) (log : List ℕ) → i ≤ length moments → back ≤ length (undo_at labels moments end i)
         → reach labels moments end (standing_back i back breaks log) ≡ length (undo_at labels moments end i) - back
-    reaches i back breaks log le under =
-        omega (arith, held_within labels moments end laws i le)
+    reaches = grind (arith, common_steps)
 
     -- a command that waits for nothing is done as the log says
     record Stays (i : ℕ) (place : Place) (back : ℕ) (command : DebugCommand) (breaks : AddressSet) (log : List ℕ) (held : Watching) : Type 0 where
@@ -119,25 +120,14 @@ module _ (labels : List Label) (moments : List Shown) (end : Shown) where
         ≡ standing_back i (back_after (holding i waiting goal breaks log) now.place back command) (breaks_after command breaks)
         (log ++ printed labels (length (undo_at labels moments end i) - back)
         (observed_back now (undo_at labels moments end i) (back_after (holding i waiting goal breaks log) now.place back command)) command)
-    stays_so i now back command waiting goal breaks log le sees under stays =
-        let there = back_after (holding i waiting goal breaks log) now.place back command in
-        let stand = standing_back i back breaks log in
-        let furthest : max i (i - there) ≡ i = omega arith in
-        after-is stand command
-        ∙ ap (λ index. stand_at labels moments end index (max i index) stand command) stays.index
-        ∙ ap (λ furthest. stand_at labels moments end (i - there) furthest stand command) furthest
-        ∙ ap (λ n. standing_back i there (breaks_after command breaks) (log ++ printed labels n (view_at labels moments end i (i - there)) command))
-        (reaches i back breaks log le under)
-        ∙ ap (λ view. standing_back i there (breaks_after command breaks) (log ++ printed labels (length (undo_at labels moments end i) - back) view command))
-        (sym (sees there stays.under))
+    stays_so = grind (arith, common_steps, after-is, reaches, undo_at)
 
     -- all commands at a moment, or at the end
     done-all : (finish : Watching → List ℕ) (i : ℕ) (now : MomentView) → i ≤ length moments → Sees i now → Turn finish i now.place
         → ((held : Watching) → finish (record held { commands = []; goal = Nothing }) ≡ held.log)
         → (commands waiting : List DebugCommand) (back : ℕ) (goal : Goal) (breaks : AddressSet) (log : List ℕ) → back ≤ length (undo_at labels moments end i)
         → finish (done now back commands (holding i waiting goal breaks log)) ≡ log_from (standing_back i back breaks log) commands
-    done-all finish i now le sees turn ends [] waiting back goal breaks log under =
-        ap finish (done-none now back (holding i waiting goal breaks log)) ∙ ends (holding i waiting goal breaks log)
+    done-all finish i now le sees turn ends [] waiting back goal breaks log under = search (arith, rules, done-none)
     done-all finish i now le sees turn ends (command ∷ rest) waiting back goal breaks log under =
         let held = holding i waiting goal breaks log in
         let there = back_after held now.place back command in
@@ -157,30 +147,19 @@ module _ (labels : List Label) (moments : List Shown) (end : Shown) where
         → back ≤ length (undo_at labels moments end i)
         → IsFound labels moments end laws regular i breaks place back stop
         → index_after labels moments end Run (standing_back i back breaks log) ≡ i - stop
-    run_found i place back stop breaks log le under found =
-        let start : i - back + 1 ≡ i + 1 - back = omega (arith, held_within labels moments end laws i le) in
-        rw start found.index
+    run_found = grind (arith, common_steps)
 
     -- `back`, as far as moments are held
     back_index : (i back count : ℕ) (is : Bool) → cond is (i - back - count) (i - back) ≡ i - cond is (back + count) back
-    back_index i back count true = omega arith
-    back_index i back count false = refl
+    back_index = search (arith, rules)
 
     back_under : (back count held : ℕ) (is : Bool) → is ≡ nat_le count (held - back) → back ≤ held → cond is (back + count) back ≤ held
-    back_under back count held true is under = grind (arith, nat_tests)
-    back_under back count held false is under = under
+    back_under = search (arith, rules)
 
     stays_back : (i : ℕ) (place : Place) (back count : ℕ) (waiting : List DebugCommand) (goal : Goal) (breaks : AddressSet) (log : List ℕ)
         → i ≤ length moments → back ≤ length (undo_at labels moments end i) → goal_of (holding i waiting goal breaks log) place back (Back count) ≡ None
         → Stays i place back (Back count) breaks log (holding i waiting goal breaks log)
-    stays_back i place back count waiting goal breaks log le under none =
-        let held = length (undo_at labels moments end i) in
-        record {
-          none = none;
-          index = ap (λ n. cond (nat_le count n) (i - back - count) (i - back)) (reaches i back breaks log le under)
-              ∙ back_index i back count (nat_le count (held - back));
-          under = back_under back count held (nat_le count (held - back)) refl under;
-        }
+    stays_back = search (arith, rules)
 
     -- `step` among moments that were shown
     step_index : (i back count : ℕ) → i ≤ length moments → back ≤ i → count ≤ back → min (i - back + count) (length moments) ≡ i - (back - count)
@@ -230,12 +209,7 @@ module _ (labels : List Label) (moments : List Shown) (end : Shown) where
           let index : index_after labels moments end Run (standing_back i back breaks log) ≡ met_at BreakAddress breaks (i + 1) left =
           rw start (finds ∙ behind) in
           inr (goes_on Run rest waiting back goal BreakAddress breaks log (ap unless_stopped none) tt refl index (omega arith) (λ n view. refl))
-      turn_run (Some stop) rest waiting back goal breaks log under some finds =
-          inl (record {
-            none = ap unless_stopped some;
-            index = run_found i (Before s.moment) back stop breaks log le under finds ∙ rw some refl;
-            under = rw some (omega (arith, finds.later));
-          })
+      turn_run (Some stop) rest waiting back goal breaks log under some finds = grind (arith, common_steps, le, run_found)
 
       turn_step : (count : ℕ) (rest waiting : List DebugCommand) (back : ℕ) (goal : Goal) (breaks : AddressSet) (log : List ℕ)
           → back ≤ length (undo_at labels moments end i)
@@ -284,30 +258,17 @@ module _ (labels : List Label) (moments : List Shown) (end : Shown) where
       shows-later commands goal breaks log other = rw other refl
 
       index-awaited : (goal : Goal) (breaks : AddressSet) → IsWaiting goal → is_awaited goal breaks s.moment.address ≡ true → met_at goal breaks i (s ∷ left) ≡ i
-      index-awaited FirstMoment breaks waits awaited = refl
-      index-awaited (MomentAfter n) breaks waits awaited =
-          let none : n ≡ 0 = eqb-true n 0 awaited in
-          let inside = within moments i s left is in
-          omega arith
-      index-awaited BreakAddress breaks waits awaited =
-          let inside = within moments i s left is in
-          rw (first_passes (λ (s : Shown). breaks s.moment.address) s left awaited) (omega arith)
-      index-awaited Nothing breaks waits awaited = absurd waits
+      index-awaited = grind (arith, common_steps)
 
       index-later : (goal : Goal) (breaks : AddressSet) → IsWaiting goal
           → is_awaited goal breaks s.moment.address ≡ false → met_at goal breaks i (s ∷ left) ≡ met_at (goal_later goal) breaks (i + 1) left
-      index-later FirstMoment breaks waits other = absurd (false≢true (sym other))
-      index-later (MomentAfter n) breaks waits other = let some : n ≡ 0 → ⊥ = eqb-false n 0 other in omega arith
-      index-later BreakAddress breaks waits other = rw (first_fails (λ (s : Shown). breaks s.moment.address) s left other) (omega arith)
-      index-later Nothing breaks waits other = absurd waits
+      index-later = search (arith, rules)
 
       still_waits : (goal : Goal) (breaks : AddressSet) (address : ℕ) → IsWaiting goal → is_awaited goal breaks address ≡ false → IsWaiting (goal_later goal)
-      still_waits Nothing breaks address waits other = waits
-      still_waits _ breaks address waits other = tt
+      still_waits = search (arith, rules)
 
       met-later : (goal : Goal) (breaks : AddressSet) (log : List ℕ) (index : ℕ) → met (goal_later goal) breaks log index ≡ met goal breaks log index
-      met-later (MomentAfter n) breaks log index = refl
-      met-later _ breaks log index = refl
+      met-later = search (arith, rules)
 
       comes-awaited : (commands : List DebugCommand) (goal : Goal) (breaks : AddressSet) (log : List ℕ) → IsWaiting goal → is_awaited goal breaks s.moment.address ≡ true
           → log_at_end (holding i commands goal breaks log) (s ∷ left) ≡ log_from (met goal breaks log (met_at goal breaks i (s ∷ left))) commands
@@ -331,10 +292,7 @@ module _ (labels : List Label) (moments : List Shown) (end : Shown) where
           ∙ sym (ap (λ index. log_from (met goal breaks log index) commands) (index-later goal breaks waits other))
 
       comes-moment : Comes i (s ∷ left)
-      comes-moment commands goal breaks log waits = elim (cases_Bool (is_awaited goal breaks s.moment.address)) [
-        | inl awaited ↦ comes-awaited commands goal breaks log waits awaited
-        | inr other ↦ comes-later commands goal breaks log waits other
-      ]
+      comes-moment = search (arith, rules, comes-awaited, comes-later)
 
     module _ (i : ℕ) (is : i ≡ length moments) (none : drop i moments ≡ []) where
       -- what is done at the end
@@ -345,16 +303,7 @@ module _ (labels : List Label) (moments : List Shown) (end : Shown) where
           → back ≤ length (undo_at labels moments end i) → next_stop breaks (undo_at labels moments end i) (End end.moment) back ≡ found
           → Finds labels moments end laws regular i breaks (End end.moment) back found
           → Stays i (End end.moment) back Run breaks log (holding i waiting goal breaks log)
-      turn_run_at_end None rest waiting back goal breaks log under none finds =
-          let start : i - back + 1 ≡ i + 1 - back = omega (arith, held_within labels moments end laws i (omega arith)) in
-          let index : index_after labels moments end Run (standing_back i back breaks log) ≡ i = rw start (finds ∙ omega arith) in
-          record { none = refl; index = rw none (index ∙ omega arith); under = rw none (omega arith) }
-      turn_run_at_end (Some stop) rest waiting back goal breaks log under some finds =
-          record {
-            none = refl;
-            index = run_found i (End end.moment) back stop breaks log (omega arith) under finds ∙ rw some refl;
-            under = rw some (omega (arith, finds.later));
-          }
+      turn_run_at_end = grind (arith, common_steps)
 
       step_at_end : (back count : ℕ) → back ≤ length (undo_at labels moments end i) → min (i - back + count) (length moments) ≡ i - (back - count)
       step_at_end back count under = let held = held_within labels moments end laws i (omega arith) in omega arith
@@ -363,10 +312,8 @@ module _ (labels : List Label) (moments : List Shown) (end : Shown) where
       turn_at_end Run rest waiting back goal breaks log under =
           inl (turn_run_at_end (next_stop breaks (undo_at labels moments end i) (End end.moment) back) rest waiting back goal breaks log under refl
           (finds_at_end labels moments end laws regular i breaks is none back under))
-      turn_at_end (Step count) rest waiting back goal breaks log under =
-          inl (record { none = refl; index = step_at_end back count under; under = omega arith })
-      turn_at_end (Back count) rest waiting back goal breaks log under =
-          inl (stays_back i (End end.moment) back count waiting goal breaks log (omega arith) under refl)
+      turn_at_end (Step count) rest waiting back goal breaks log under = search (arith, rules, step_at_end)
+      turn_at_end (Back count) rest waiting back goal breaks log under = search (arith, rules, stays_back)
       turn_at_end command rest waiting back goal breaks log under = inl (record { none = refl; index = refl; under = under })
 
       sees_at_end : Sees i (at_end end)
@@ -374,17 +321,13 @@ module _ (labels : List Label) (moments : List Shown) (end : Shown) where
           (comes_at_end labels moments end laws regular i is none) (now_at_end labels moments end laws regular i is)
 
       index-ends : (goal : Goal) (breaks : AddressSet) → met_at goal breaks i [] ≡ i
-      index-ends FirstMoment breaks = refl
-      index-ends (MomentAfter n) breaks = omega arith
-      index-ends BreakAddress breaks = omega arith
-      index-ends Nothing breaks = sym is
+      index-ends = search (arith, rules)
 
       ends : (commands : List DebugCommand) (goal : Goal) (breaks : AddressSet) (log : List ℕ) → IsWaiting goal
           → ended (holding i commands goal breaks log) end
           ≡ done (at_end end) 0 commands (holding i commands goal breaks (log ++ arrival goal labels (at_end end)))
       unfolding ended arrived
-      ends commands Nothing breaks log waits = absurd waits
-      ends commands _ breaks log waits = refl
+      ends = search (arith, rules)
 
       comes-end : Comes i []
       comes-end commands goal breaks log waits =
@@ -398,8 +341,7 @@ module _ (labels : List Label) (moments : List Shown) (end : Shown) where
 
     comes : (left : List Shown) (i : ℕ) → drop i moments ≡ left → i ≤ length moments → Comes i left
     comes [] i is le = comes-end i (omega (arith, length-drop i moments, ap length is)) is
-    comes (s ∷ left) i is le =
-        comes-moment i s left is (comes left (i + 1) (drop_next moments i s left is) (omega (arith, within moments i s left is)))
+    comes (s ∷ left) i is le = search (arith, rules, comes-moment, drop_next, within, comes left)
 
 pub keeps_the_log : UndoLaws → KeepsTheLog
 unfolding log_of

@@ -1,6 +1,6 @@
 -- Commands are done one after the other.
-use Rattle.std.proofs.Common.{◌≡◌, ℕ, suc, ◌+◌, ◌<◌, ◌≤◌, List, [], ◌∷◌, length, drop, get_or, Option, Some, None, refl, sym, ap, ◌∙◌, arith}
-use Rattle.std.proofs.Math.Seq.{drop-cons}
+use Rattle.std.proofs.lemmas.Grind.{common_steps}
+use Rattle.std.proofs.Common.{◌≡◌, ℕ, ◌+◌, ◌<◌, ◌≤◌, List, [], ◌∷◌, length, drop, get_or, Option, Some, None, refl, sym, ap, ◌∙◌, arith, rules}
 use Rattle.std.proofs.lemmas.List.{length-drop, nil_from_length}
 use Rattle.debug_commands.specs.declared.command.DebugCommand.{DebugCommand}
 use Rattle.uxn_debugger.specs.declared.place.Goal.{Goal}
@@ -10,9 +10,7 @@ use Rattle.uxn_debugger.specs.Watching.{Watching, goal_of, back_after, obeyed, d
 
 -- what stands at a place comes next
 pub next_is : {A : Type 0} (read xs : List A) (i : ℕ) (x : A) → read ≡ xs → i < length read → x ≡ get_or read i x → drop i xs ≡ x ∷ drop (i + 1) xs
-next_is read xs i x same within here =
-    let next : i + 1 ≡ suc i = omega arith in
-    rw (← same, next) (drop-cons read i x within ∙ ap (λ first. first ∷ drop (suc i) read) (sym here))
+next_is = grind (arith, common_steps)
 
 pub none_left : {A : Type 0} (read xs : List A) (i : ℕ) → read ≡ xs → length read ≤ i → drop i xs ≡ []
 none_left read xs i same past = rw (← same) (nil_from_length (drop i read) (omega (arith, length-drop i read)))
@@ -62,15 +60,9 @@ was_obeyed now back there command rest held new all cut stays is_there is whole 
 pub went : (now : MomentView) (back : ℕ) (command : DebugCommand) (rest : List DebugCommand) (goal : Goal) (held all : Watching) → held.commands ≡ command ∷ rest
     → goal_of (record held { commands = rest }) now.place back command ≡ Some goal → done now back held.commands held ≡ all
     → record held { commands = rest; goal = goal } ≡ all
-went now back command rest goal held all cut goes whole =
-    sym (ap (λ commands. done now back commands held) cut ∙ done-more now back command rest held
-    ∙ ap (λ goal. unless_it_goes goal rest held (done now (back_after held now.place back command) rest (obeyed now back command held))) goes)
-    ∙ whole
+went = search (arith, rules, done-more)
 
 -- none is left
 pub finished : (now : MomentView) (back : ℕ) (held all : Watching) → held.commands ≡ [] → done now back held.commands held ≡ all
     → record held { goal = Nothing } ≡ all
-finished now back held all none whole =
-    ap (λ commands. record held { commands = commands; goal = Nothing }) none
-    ∙ sym (ap (λ commands. done now back commands held) none ∙ done-none now back held)
-    ∙ whole
+finished = search (arith, rules, done-none)

@@ -1,4 +1,5 @@
 -- How a table is printed, byte by byte.
+use Rattle.std.proofs.lemmas.Grind.{common_steps}
 use Rattle.std.proofs.Common.{◌≡◌, ℕ, zero, suc, ◌+◌, List, ◌++◌, append-nil, append_assoc, refl, sym, ap, ◌∙◌, arith}
 use Rattle.std.specs.List.{flat_map, range_with_len}
 use Rattle.uxn_debugger.specs.Printing.{in_lines, table}
@@ -11,11 +12,7 @@ flat_range_suc f a (suc n) j is = ap (λ more. f a ++ more) (flat_range_suc f (a
 pub part_put : (f : ℕ → List ℕ) (n : ℕ) (log log0 log1 log2 log3 start byte last : List ℕ)
     → log0 ≡ log ++ flat_map f (range_with_len 0 n) → log1 ≡ log0 ++ start → log2 ≡ log1 ++ byte → log3 ≡ log2 ++ last
     → (start ++ byte) ++ last ≡ f n → log3 ≡ log ++ flat_map f (range_with_len 0 (n + 1))
-part_put f n log log0 log1 log2 log3 start byte last e0 e1 e2 e3 is =
-    let next : n + 1 ≡ suc n = omega arith in
-    let all : flat_map f (range_with_len 0 (suc n)) ≡ flat_map f (range_with_len 0 n) ++ ((start ++ byte) ++ last) =
-    flat_range_suc f 0 n n (omega arith) ∙ ap (λ part. flat_map f (range_with_len 0 n) ++ part) (sym is) in
-    rw (e3, e2, e1, e0, next, all) (simp append_assoc refl)
+part_put = grind (arith, common_steps, flat_range_suc)
 
 -- all parts make the table
 pub table_at : (name : ℕ → List ℕ) (byte : ℕ → ℕ) (count at : ℕ) → at ≡ count → flat_map (in_lines name byte count) (range_with_len 0 at) ≡ table name byte count

@@ -1,8 +1,9 @@
 -- What a command does where a run stands, against the indices of the finished list.
-use Rattle.std.proofs.Common.{◌≡◌, ℕ, zero, suc, ◌+◌, ◌-◌, ◌<◌, ◌≤◌, Bool, true, false, cond, List, [], ◌∷◌, length, drop, Option, Some, None, inl, inr, refl, sym, ap, ◌∙◌, arith}
+use Rattle.std.proofs.Common.{rules}
+use Rattle.std.proofs.Common.{◌≡◌, ℕ, zero, suc, ◌+◌, ◌-◌, ◌<◌, ◌≤◌, Bool, true, false, cond, List, [], ◌∷◌, length, drop, Option, Some, None, refl}
+use Rattle.std.proofs.Common.{sym, ap, ◌∙◌, arith}
 use Rattle.std.specs.Prelude.{slice_get, min, ◌==◌}
 use Rattle.std.specs.List.{position_or_len}
-use Rattle.std.proofs.lemmas.Bool.{cases_Bool}
 use Rattle.std.proofs.lemmas.Bool.Decides.{nat_tests}
 use Rattle.tal_words.specs.declared.name.Label.{Label}
 use Rattle.uxn_undo.specs.Kept.{Kept}
@@ -49,30 +50,11 @@ module _ (labels : List Label) (moments : List Shown) (end : Shown) (laws : Undo
       test : is_stop breaks (undo_at labels moments end i) place less ≡ breaks shown.moment.address
 
     found_later : (less : ℕ) (found : Option ℕ) → met_behind (suc less) ≡ met_behind less → Finds less found → Finds (suc less) found
-    found_later less None same finds = same ∙ finds
-    found_later less (Some stop) same finds = record { index = same ∙ finds.index; later = omega (arith, finds.later) }
+    found_later = search (arith, rules)
 
     one_more : (less : ℕ) → i ≤ length moments → less ≤ i → IsThere less → Finds less (next_stop breaks (undo_at labels moments end i) place less)
         → Finds (suc less) (next_stop breaks (undo_at labels moments end i) place (suc less))
-    one_more less le under there finds =
-        let held = undo_at labels moments end i in
-        let passes : Shown → Bool = λ s. breaks s.moment.address in
-        let start : i + 1 - suc less ≡ i - less = omega arith in
-        let inside = within moments (i - less) there.shown there.more there.cut in
-        elim (cases_Bool (is_stop breaks held place less)) [
-          | inl is ↦
-              let here : position_or_len passes (drop (i - less) moments) ≡ 0 =
-              ap (position_or_len passes) there.cut ∙ first_passes passes there.shown there.more (sym there.test ∙ is) in
-              let index : met_behind (suc less) ≡ i - less = rw (start, here) (omega arith) in
-              rw (next_stop-here breaks held place less is) (record { index = index; later = omega arith })
-          | inr other ↦
-              let next : drop (i + 1 - less) moments ≡ there.more =
-              let step : i + 1 - less ≡ i - less + 1 = omega arith in rw step (drop_next moments (i - less) there.shown there.more there.cut) in
-              let further : position_or_len passes (drop (i - less) moments) ≡ 1 + position_or_len passes there.more =
-              ap (position_or_len passes) there.cut ∙ first_fails passes there.shown there.more (sym there.test ∙ other) in
-              let same : met_behind (suc less) ≡ met_behind less = rw (start, further, next) (omega arith) in
-              rw (next_stop-later breaks held place less other) (found_later less (next_stop breaks held place less) same finds)
-        ]
+    one_more = search (arith, rules, drop_next, first_fails, first_passes, found_later, next_stop-here, next_stop-later, undo_at, within)
 
     kept_there : (less : ℕ) → i ≤ length moments → suc less ≤ length (undo_at labels moments end i) → IsThere (suc less)
     kept_there less le under =
@@ -118,9 +100,4 @@ module _ (labels : List Label) (moments : List Shown) (end : Shown) (laws : Undo
   pub finds_at_end : (i : ℕ) (breaks : AddressSet) → i ≡ length moments → drop i moments ≡ []
       → (back : ℕ) → back ≤ length (undo_at labels moments end i)
       → Finds i breaks (End end.moment) back (next_stop breaks (undo_at labels moments end i) (End end.moment) back)
-  finds_at_end i breaks is none =
-      let held = undo_at labels moments end i in
-      let start : i + 1 - 1 ≡ i = omega arith in
-      let first : met_behind i breaks (End end.moment) 1 ≡ met_behind i breaks (End end.moment) 0 = rw start (omega arith) in
-      finds_all i breaks (End end.moment) (omega arith)
-      (rw (next_stop-later breaks held (End end.moment) 0 refl, next_stop-none breaks held (End end.moment)) first)
+  finds_at_end = search (arith, rules, finds_all, next_stop-later, next_stop-none, undo_at)

@@ -1,10 +1,10 @@
 -- The bytes that are kept, and those behind them, which are 0.
 use Rattle.std.proofs.Common.{◌≡◌, ℕ, ◌+◌, ◌-◌, ◌<◌, ◌≤◌, inl, inr, List, [], ◌++◌, length, take, drop, min, replicate, slice_index, slice_set, EachIndex, refl, ap, sym, ◌∙◌, append_assoc, arith}
 use Rattle.std.proofs.Math.ListN.{get_or-append}
-use Rattle.std.proofs.Math.Seq.{get_or-append_right}
-use Rattle.std.proofs.lemmas.List.{length-append, length-replicate, length-set, length-take, length-take-le, take_all, length-drop, drop-take, take-take, take-append-le, drop-append-le, set-append_left, replicate-append-replicate, get_or-replicate}
+use Rattle.std.proofs.lemmas.List.{length-append, length-replicate, length-set, take_all, drop-take, take-append-le, set-append_left, replicate-append-replicate}
 use Rattle.std.proofs.lemmas.Bool.{cases_lt}
 use Rattle.uxn_memory.specs.Bytes.{zeros, all_bytes, with_bytes, bank0}
+use Rattle.std.proofs.lemmas.Grind.{common_steps}
 
 pub all_bytes-none : all_bytes [] ≡ zeros 1048576
 unfolding all_bytes
@@ -20,9 +20,7 @@ all_bytes-at first k h = get_or-append first (zeros (1048576 - length first)) 0 
 
 pub all_bytes-behind : (first : List ℕ) (k : ℕ) → length first ≤ k → k < 1048576 → slice_index (all_bytes first) k ≡ 0
 unfolding all_bytes zeros
-all_bytes-behind first k h within =
-    get_or-append_right first (replicate (1048576 - length first) 0) k 0 h
-    ∙ get_or-replicate (1048576 - length first) (k - length first) 0 0 (omega arith)
+all_bytes-behind first k h within = grind (arith, common_steps)
 
 pub all_bytes-set : (first : List ℕ) (k value : ℕ) → k < length first → slice_set (all_bytes first) k value ≡ all_bytes (slice_set first k value)
 unfolding all_bytes
@@ -44,18 +42,11 @@ all_bytes-more first count size is more within =
     ∙ ap (λ (n : ℕ). first ++ replicate n 0) all
 
 pub length-with_bytes : (memory : List ℕ) (at : ℕ) (bytes : List ℕ) → at + length bytes ≤ length memory → length (with_bytes memory at bytes) ≡ length memory
-length-with_bytes memory at bytes h =
-    let prefix : length (take at memory) ≡ at = length-take-le at memory (omega arith) in
-    simp (length-append, length-drop) (omega arith)
+length-with_bytes memory at bytes h = grind (arith, common_steps)
 
 pub all_bytes-with : (first : List ℕ) (at : ℕ) (bytes : List ℕ) → at + length bytes ≤ length first → with_bytes (all_bytes first) at bytes ≡ all_bytes (with_bytes first at bytes)
 unfolding all_bytes
-all_bytes-with first at bytes h =
-    let rest = zeros (1048576 - length first) in
-    ap (λ (z : List ℕ). z ++ bytes ++ drop (at + length bytes) (first ++ rest)) (take-append-le at first rest (omega arith))
-    ∙ ap (λ (z : List ℕ). take at first ++ bytes ++ z) (drop-append-le (at + length bytes) first rest h)
-    ∙ sym (append_assoc (take at first ++ bytes) (drop (at + length bytes) first) rest)
-    ∙ ap (λ (n : ℕ). with_bytes first at bytes ++ zeros (1048576 - n)) (sym (length-with_bytes first at bytes h))
+all_bytes-with first at bytes h = grind (arith, common_steps)
 
 pub all_bytes-fit : (first : List ℕ) → length first ≤ 1048576 → EachIndex first (λ k. slice_index first k < 256)
     → EachIndex (all_bytes first) (λ k. slice_index (all_bytes first) k < 256)
@@ -68,13 +59,7 @@ all_bytes-fit first within fit k h =
 
 -- the shorter of two prefixes
 take_both : (count room : ℕ) (xs : List ℕ) → take count (take room xs) ≡ take (min count room) xs
-take_both count room xs = elim (cases_lt count room) [
-  | inl h ↦ let e : min count room ≡ count = omega arith in rw e (take-take count room xs (omega arith))
-  | inr h ↦
-      let e : min count room ≡ room = omega arith in
-      let short : length (take room xs) ≤ count = simp length-take (omega arith) in
-      rw e (take_all count (take room xs) short)
-]
+take_both count room xs = grind (arith, common_steps)
 
 pub all_bytes-slice : (first : List ℕ) (at count : ℕ) → 65536 ≤ length first → at ≤ 65536
     → take count (drop at (bank0 (all_bytes first))) ≡ take (min 65536 (at + count) - at) (drop at first)

@@ -27,15 +27,13 @@ copied_up-more memory count from_bank from to_bank to = rw add-one refl
 pub copied_down-end : (memory : List ℕ) (count from_bank from to_bank to : ℕ)
     → count ≤ 0 → copied_down memory count from_bank from to_bank to ≡ memory
 unfolding copied_down
-copied_down-end memory zero from_bank from to_bank to h = refl
-copied_down-end memory (suc count) from_bank from to_bank to h = absurd (omega arith)
+copied_down-end memory count from_bank from to_bank to h = grind (arith, common_steps)
 
 pub copied_down-less : (memory : List ℕ) (count from_bank from to_bank to : ℕ) → 0 < count
     → copied_down memory count from_bank from to_bank to
     ≡ copied_down (copied memory from_bank (from + (count - 1)) to_bank (to + (count - 1))) (count - 1) from_bank from to_bank to
 unfolding copied_down
-copied_down-less memory zero from_bank from to_bank to h = absurd (omega arith)
-copied_down-less memory (suc count) from_bank from to_bank to h = let e : suc count - 1 ≡ count = omega arith in rw e refl
+copied_down-less memory count from_bank from to_bank to h = grind (arith, common_steps)
 
 pub ruleset runs = (filled-none, filled-more, copied_up-none, copied_up-more, copied_down-end, copied_down-less)
 

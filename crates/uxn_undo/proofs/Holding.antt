@@ -1,7 +1,7 @@
 -- What keeps one moment after another holds the newest of all of them.
 use Rattle.uxn_undo.proofs.Common.{◌≡◌, ℕ, zero, suc, ◌-◌, ◌<◌, ◌≤◌, List, [], ◌∷◌, length, take, refl, sym, ap, ◌∙◌, inl, inr, arith, sum_by}
 use Rattle.uxn_undo.proofs.Common.{cases_lt, nat_tests, sum_by-cons, Kept, byte_count, most_moments, most_bytes}
-use Rattle.std.proofs.Common.{◌+◌, Bool, true, false}
+use Rattle.std.proofs.Common.{◌+◌, Bool, true, false, rules}
 use Rattle.std.proofs.lemmas.List.{nil_from_length, take_all}
 use Rattle.std.specs.Prelude.{◌&&◌, nat_le, nat_lt}
 use Rattle.uxn_undo.specs.Kept.{held_of, holding}
@@ -42,12 +42,8 @@ is-held (suc left) room (kept ∷ older) = elim (cases_lt room (byte_count kept)
   | inl large ↦ rw (held-large left room kept older large) (nothing-held (suc left) room (kept ∷ older))
   | inr small ↦
       let rest = is-held left (room - byte_count kept) older in
-      let held = held_of left (room - byte_count kept) older in
-      rw (held-next left room kept older small) (record {
-        few = omega (arith, rest.few);
-        small = omega (arith, rest.small, sum_by-cons byte_count kept held);
-        newest = ap (λ (z : List Kept). kept ∷ z) rest.newest;
-      })
+      let sum = sum_by-cons byte_count kept (held_of left (room - byte_count kept) older) in
+      rw (held-next left room kept older small) (search (arith, rules))
 ]
 
 -- all moments are, where they fit
@@ -64,13 +60,7 @@ held-take : (left room n : ℕ) (given : List Kept) → length (held_of left roo
 held-take left room zero given few = held-nothing left room ∙ sym (nil_from_length (held_of left room given) (omega (arith, few)))
 held-take zero room (suc n) given few = held-none room (take (suc n) given) ∙ sym (held-none room given)
 held-take (suc left) room (suc n) [] few = refl
-held-take (suc left) room (suc n) (kept ∷ older) few = elim (cases_lt room (byte_count kept)) [
-  | inl large ↦ held-large left room kept (take n older) large ∙ sym (held-large left room kept older large)
-  | inr small ↦
-      let next = held-next left room kept older small in
-      held-next left room kept (take n older) small
-      ∙ ap (λ (z : List Kept). kept ∷ z) (held-take left (room - byte_count kept) n older (omega (arith, few, ap length next))) ∙ sym next
-]
+held-take (suc left) room (suc n) (kept ∷ older) few = search (arith, rules, held-large, held-next, held-take left)
 
 -- more room holds no fewer
 held-more : (left room more_left more : ℕ) (given : List Kept) → left ≤ more_left → room ≤ more
@@ -78,15 +68,7 @@ held-more : (left room more_left more : ℕ) (given : List Kept) → left ≤ mo
 held-more zero room more_left more given few le = omega (arith, ap length (held-none room given))
 held-more (suc left) room zero more given few le = absurd (omega arith)
 held-more (suc left) room (suc more_left) more [] few le = omega (arith, ap length (held-nothing (suc left) room))
-held-more (suc left) room (suc more_left) more (kept ∷ older) few le = elim (cases_lt room (byte_count kept)) [
-  | inl large ↦ omega (arith, ap length (held-large left room kept older large))
-  | inr small ↦ omega (
-    arith,
-    ap length (held-next left room kept older small),
-    ap length (held-next more_left more kept older (omega arith)),
-    held-more left (room - byte_count kept) more_left (more - byte_count kept) older (omega arith) (omega arith),
-  )
-]
+held-more (suc left) room (suc more_left) more (kept ∷ older) few le = search (arith, rules, held-large, held-next, held-more left)
 
 -- whether there is room for one more moment that keeps so many bytes
 abbrev has_room_for : ℕ → List Kept → Bool
@@ -96,23 +78,11 @@ has_room_for count held = nat_lt (length held) most_moments && nat_le (sum_by by
 pub held-fewer : (count : ℕ) (held before now : List Kept) (room : Bool) → room ≡ has_room_for count held → room ≡ false
     → count < 65536 → now ≡ take (length held - 1) held → held_of 65535 (most_bytes - count) held ≡ held_of 65535 (most_bytes - count) before
     → held_of 65535 (most_bytes - count) now ≡ held_of 65535 (most_bytes - count) before
-held-fewer count held before now room test none short is same =
-    let all = is-held 65535 (most_bytes - count) held in
-    let whole = held_of 65535 (most_bytes - count) held in
-    let fewer : length whole ≤ length held - 1 = elim (cases_lt (length whole) (length held)) [
-      | inl less ↦ omega arith
-      | inr full ↦
-          let same : whole ≡ held = all.newest ∙ take_all (length whole) held full in
-          let few : length held < 65536 = omega (arith, all.few, ap length same) in
-          let small : sum_by byte_count held ≤ most_bytes - count = rw same at all.small in
-          absurd (grind (arith, nat_tests))
-    ] in
-    ap (held_of 65535 (most_bytes - count)) is ∙ held-take 65535 (most_bytes - count) (length held - 1) held fewer ∙ same
+held-fewer = search (arith, rules, held-take, is-held, take_all)
 
 pub held-fits : (count : ℕ) (held before : List Kept) (room : Bool) → room ≡ has_room_for count held → room ≡ true
     → held_of 65535 (most_bytes - count) held ≡ held_of 65535 (most_bytes - count) before → held ≡ held_of 65535 (most_bytes - count) before
-held-fits count held before room test is same =
-    sym (held-all 65535 (most_bytes - count) held (grind (arith, nat_tests)) (grind (arith, nat_tests))) ∙ same
+held-fits = search (arith, rules, held-all)
 
 one_more : (given : List Kept) (kept : Kept) → holding (kept ∷ holding given) ≡ holding (kept ∷ given)
 one_more given kept =
@@ -129,8 +99,4 @@ one_more given kept =
     ]
 
 pub holding_law : HoldingLaw
-holding_law = record {
-  none = held-nothing most_moments most_bytes;
-  one_more = one_more;
-  newest = λ given. (is-held most_moments most_bytes given).newest;
-}
+holding_law = search (arith, rules, held-nothing, is-held, one_more)

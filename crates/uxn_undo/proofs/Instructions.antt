@@ -1,9 +1,9 @@
 -- An instruction changes bank 0 only within the bytes that are kept for it.
-use Rattle.uxn_undo.proofs.Common.{◌≡◌, ℕ, ◌+◌, ◌-◌, ◌/◌, ◌%◌, ◌==◌, ◌<◌, ◌≤◌, true, false, cond, List, [], length, Option, None, Some}
-use Rattle.uxn_undo.proofs.Common.{refl, ap, inl, inr, arith, cases_Bool, get_or-map-range_with_len, length-map-range_with_len, Core, Cells}
+use Rattle.uxn_undo.proofs.Common.{◌≡◌, ℕ, ◌+◌, ◌-◌, ◌%◌, ◌==◌, ◌<◌, true, false, cond, List, [], Option, None, Some}
+use Rattle.uxn_undo.proofs.Common.{refl, inl, inr, arith, cases_Bool, get_or-map-range_with_len, length-map-range_with_len, Core, Cells}
 use Rattle.uxn_undo.proofs.Common.{byte_below, Width, Byte, Short, mode_of, OpEffect, ruled, sides_of, core_of, Span, span_in_bank, IsMachine}
 use Rattle.uxn_undo.proofs.Common.{HoldsBytes}
-use Rattle.std.proofs.Common.{subst}
+use Rattle.std.proofs.Common.{subst, rules}
 use Rattle.std.specs.Prelude.{nat_lt}
 use Rattle.varvara_bus.specs.History.{stored}
 use Rattle.varvara_bus.specs.State.{DeviceState}
@@ -56,12 +56,7 @@ write-leaves devices core width port value is small =
 store-leaves : (mode : OpMode) (core : Core) (op_effect : OpEffect) (span : Span) → IsMachine core
     → Changes span (sides_of mode.returns core).memory op_effect.memory
     → Leaves span (sides_of mode.returns core).memory (core_of mode.returns (ruled mode (sides_of mode.returns core) op_effect))
-store-leaves mode core op_effect span is changes =
-    let whole : 65536 ≤ length op_effect.memory = omega (arith, changes.size, ap (λ (z : List ℕ). length z) (side-memory mode.returns core), is.memory) in
-    record {
-      changes = rw (row-memory mode.returns mode core op_effect) changes;
-      machine = row-machine mode.returns mode core op_effect is whole;
-    }
+store-leaves = search (arith, rules, row-machine, row-memory, side-memory)
 
 plain-leaves : (mode : OpMode) (core : Core) (op_effect : OpEffect) (span : Span) → IsMachine core → op_effect.memory ≡ (sides_of mode.returns core).memory
     → Leaves span (sides_of mode.returns core).memory (core_of mode.returns (ruled mode (sides_of mode.returns core) op_effect))
@@ -71,20 +66,14 @@ plain-leaves mode core op_effect span is same =
 zero-changes : (width : Width) (memory : List ℕ) (place value : ℕ) → place < 256
     → Changes (span_in_page place (size_of width)) memory (with_zero_word width memory place value)
 unfolding with_zero_word
-zero-changes Byte memory place value small =
-    one-set (span_in_page place 1) 0 place (value % 256) memory memory (omega arith) (omega arith) (same-memory _ memory)
-zero-changes Short memory place value small =
-    one-set (span_in_page place 2) 1 _ (value % 256) memory _ (omega arith) refl
-    (one-set (span_in_page place 2) 0 place (value / 256) memory memory (omega arith) (omega arith) (same-memory _ memory))
+zero-changes Byte memory place value small = search (arith, rules, one-set, same-memory)
+zero-changes Short memory place value small = search (arith, rules, one-set, same-memory)
 
 word-changes : (width : Width) (memory : List ℕ) (place value : ℕ) → place < 65536
     → Changes (span_in_bank place (size_of width)) memory (memory_with_word width memory place value)
 unfolding memory_with_word
-word-changes Byte memory place value small =
-    one-set (span_in_bank place 1) 0 place (value % 256) memory memory (omega arith) (omega arith) (same-memory _ memory)
-word-changes Short memory place value small =
-    one-set (span_in_bank place 2) 1 _ (value % 256) memory _ (omega arith) refl
-    (one-set (span_in_bank place 2) 0 place (value / 256) memory memory (omega arith) (omega arith) (same-memory _ memory))
+word-changes Byte memory place value small = search (arith, rules, one-set, same-memory)
+word-changes Short memory place value small = search (arith, rules, one-set, same-memory)
 
 relative-small : (at offset : ℕ) → relative at offset < 65536
 unfolding relative
@@ -109,18 +98,9 @@ RowLeaves op mode core devices =
 
 row-leaves : (op : Op) (mode : OpMode) (core : Core) (devices : DeviceState) → IsMachine core → RowLeaves op mode core devices
 unfolding op_effect_of
-row-leaves (Store Stz) mode core devices is =
-    let s = sides_of mode.returns core in
-    store-leaves mode core (op_effect_of (Store Stz) mode s) _ is
-    (zero-changes mode.width s.memory (word_below s.this Byte 0) _ (byte-small s.this 0 (side-holds mode.returns core is)))
-row-leaves (Store Str) mode core devices is =
-    let s = sides_of mode.returns core in
-    store-leaves mode core (op_effect_of (Store Str) mode s) _ is
-    (word-changes mode.width s.memory (relative s.at (word_below s.this Byte 0)) _ (relative-small s.at (word_below s.this Byte 0)))
-row-leaves (Store Sta) mode core devices is =
-    let s = sides_of mode.returns core in
-    store-leaves mode core (op_effect_of (Store Sta) mode s) _ is
-    (word-changes mode.width s.memory (word_below s.this Short 0) _ (short-small s.this 0 (side-holds mode.returns core is)))
+row-leaves (Store Stz) mode core devices is = search (arith, rules, byte-small, side-holds, store-leaves, zero-changes)
+row-leaves (Store Str) mode core devices is = search (arith, rules, relative-small, store-leaves, word-changes)
+row-leaves (Store Sta) mode core devices is = search (arith, rules, short-small, side-holds, store-leaves, word-changes)
 row-leaves Dei mode core devices is =
     let s = sides_of mode.returns core in
     let begun = plain-leaves mode core (op_effect_of Dei mode s) no_span is refl in
@@ -144,9 +124,7 @@ any-leaves : (op : Option Op) (code : ℕ) (core : Core) (devices : DeviceState)
     → Leaves (span_of_op op (mode_of code).width (sides_of (mode_of code).returns core).memory (sides_of (mode_of code).returns core).at
     (sides_of (mode_of code).returns core).this (page_of devices)) core.memory
     (access_done varvara (begun_by op code core).access (begun_by op code core).core (no_changes devices)).core
-any-leaves None code core devices is =
-    let done = immediate-machine code core is in
-    record { changes = rw done.memory (same-memory no_span core.memory); machine = done.machine }
+any-leaves None code core devices is = search (arith, rules, immediate-machine, same-memory)
 any-leaves (Some op) code core devices is =
     let memory = side-memory (mode_of code).returns core in
     let row = row-leaves op (mode_of code) core devices is in

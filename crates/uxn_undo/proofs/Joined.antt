@@ -1,4 +1,5 @@
 -- Two rings and the slots that hold the same moments.
+use Rattle.std.proofs.Common.{rules}
 use Rattle.uxn_undo.proofs.Common.{◌≡◌, ℕ, zero, suc, ◌+◌, ◌-◌, ◌<◌, ◌≤◌, Bool, true, false, cond, List, [], ◌∷◌, ◌++◌, length, take, drop, Some}
 use Rattle.uxn_undo.proofs.Common.{None, refl, sym, ap, ◌∙◌, arith, Option, map, slice_get, slice_index, sum_by, option_map, range_with_len}
 use Rattle.uxn_undo.proofs.Common.{nat_tests, take-take, get_or-take, get_or-drop, length-take, length-take-le, length-append, sum_by-cons}
@@ -23,9 +24,7 @@ last_ends records last i size is =
 kept_byte : (bytes : List ℕ) (r : Record) (begin at byte : ℕ) (is : Bool) → covers r.span at ≡ is
     → cond is (slice_index (take (entry_count r) (drop begin bytes)) (distance_to r.span at)) byte ≡ cond is (slice_index bytes (begin + distance_to r.span at)) byte
 kept_byte bytes r begin at byte false e = refl
-kept_byte bytes r begin at byte true e =
-    let less : distance_to r.span at < entry_count r = grind (arith, nat_tests) in
-    get_or-take (entry_count r) (drop begin bytes) (distance_to r.span at) 0 less ∙ get_or-drop begin bytes (distance_to r.span at) 0
+kept_byte bytes r begin at byte true e = search (arith, rules, get_or-drop, get_or-take)
 
 in_span : (r : Record) (at distance : ℕ) (is : Bool) → covers r.span at ≡ is → Some distance ≡ cond is (Some (distance_to r.span at)) None
     → (begin size : ℕ) → begin + entry_count r ≤ size → begin + distance < size
@@ -84,18 +83,13 @@ module _ (rows : List Row) where
   pub counts-moments : (records : List Record) (bytes : List ℕ) → sum_by byte_count (moments_in rows records bytes) ≡ sum_by entry_count records
   unfolding moments_in
   counts-moments [] bytes = refl
-  counts-moments (newest ∷ older) bytes =
-      sum_by-cons byte_count (moment_of newest (row_of rows newest) (take (entry_count newest) bytes)) (moments_in rows older (drop (entry_count newest) bytes))
-      ∙ ap (λ n. entry_count newest + n) (counts-moments older (drop (entry_count newest) bytes))
-      ∙ sym (sum_by-cons entry_count newest older)
+  counts-moments (newest ∷ older) bytes = search (arith, rules, sum_by-cons, counts-moments older)
 
   -- one more record, with its bytes
   pub moments-push : (newest : Record) (older : List Record) (bytes others : List ℕ) → length bytes ≡ entry_count newest
       → moments_in rows (newest ∷ older) (bytes ++ others) ≡ moment_of newest (row_of rows newest) bytes ∷ moments_in rows older others
   unfolding moments_in
-  moments-push newest older bytes others size =
-      ap (λ (z : List ℕ). moment_of newest (row_of rows newest) z ∷ moments_in rows older (drop (entry_count newest) (bytes ++ others))) (take_at bytes others (entry_count newest) size)
-      ∙ ap (λ (z : List ℕ). moment_of newest (row_of rows newest) bytes ∷ moments_in rows older z) (drop_at bytes others (entry_count newest) size)
+  moments-push = search (arith, rules, drop_at, take_at)
 
   -- the newest records, with their bytes
   moments-take : (n : ℕ) (records : List Record) (bytes : List ℕ)
@@ -164,8 +158,7 @@ module _ (rows : List Row) where
 
   pub bytes-held : (records : Buffer Record) (bytes : Buffer ℕ) (held : List Kept) → moments_in rows records.items bytes.items ≡ held
       → AreRings records bytes → sum_by byte_count held ≡ length bytes.items
-  bytes-held records bytes held is rings =
-      ap (λ (z : List Kept). sum_by byte_count z) (sym is) ∙ counts-moments records.items bytes.items ∙ sym rings.filled
+  bytes-held = search (arith, rules, counts-moments)
 
   pub forgotten-rings : (records : Buffer Record) (bytes : Buffer ℕ) (last : Record) → AreRings records bytes
       → slice_get records.items (length records.items - 1) ≡ Some last

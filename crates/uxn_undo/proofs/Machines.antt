@@ -1,5 +1,5 @@
 -- An instruction up to its port access leaves a machine.
-use Rattle.uxn_undo.proofs.Common.{◌≡◌, ℕ, zero, suc, ◌+◌, ◌/◌, ◌%◌, ◌==◌, ◌<◌, ◌≤◌, Bool, true, false, cond, List, [], ◌∷◌, length, refl, arith}
+use Rattle.uxn_undo.proofs.Common.{◌≡◌, ℕ, zero, suc, ◌+◌, ◌%◌, ◌==◌, ◌<◌, ◌≤◌, Bool, true, false, cond, List, [], ◌∷◌, length, refl, arith}
 use Rattle.uxn_undo.proofs.Common.{slice_index, slice_set, Cells, byte_below, Core, Width, Byte, Short, sides_of, core_of, OpEffect, ruled, mode_of}
 use Rattle.uxn_undo.proofs.Common.{HoldsBytes, IsMachine}
 use Rattle.std.proofs.Common.{rules}
@@ -21,9 +21,7 @@ set-holds (x ∷ xs) (suc place) value small holds (suc k) = set-holds xs place 
 pub pushed-holds : (ring : Cells) (width : Width) (value : ℕ) → HoldsBytes ring → HoldsBytes (pushed ring width value)
 unfolding pushed
 pushed-holds ring Byte value holds = set-holds ring.bytes ring.pointer (value % 256) (omega arith) holds
-pushed-holds ring Short value holds =
-    set-holds (slice_set ring.bytes ring.pointer (value % 65536 / 256)) ((ring.pointer + 1) % 256) (value % 65536 % 256) (omega arith)
-    (set-holds ring.bytes ring.pointer (value % 65536 / 256) (omega arith) holds)
+pushed-holds ring Short value holds = search (arith, rules, set-holds)
 
 all-pushed-holds : (ring : Cells) (words : Pushes) → HoldsBytes ring → HoldsBytes (pushed_all ring words)
 all-pushed-holds ring [] holds = holds
@@ -47,16 +45,8 @@ row-memory false mode core op_effect = refl
 
 pub row-machine : (returns : Bool) (mode : Mode) (core : Core) (op_effect : OpEffect) → IsMachine core → 65536 ≤ length op_effect.memory
     → IsMachine (core_of returns (ruled mode (sides_of returns core) op_effect))
-row-machine true mode core op_effect is size = record {
-  memory = size;
-  working = all-pushed-holds core.working op_effect.passes is.working;
-  returns = all-pushed-holds (dropped mode.keep core.returns op_effect.count) op_effect.results (dropped-holds mode.keep core.returns op_effect.count is.returns);
-}
-row-machine false mode core op_effect is size = record {
-  memory = size;
-  working = all-pushed-holds (dropped mode.keep core.working op_effect.count) op_effect.results (dropped-holds mode.keep core.working op_effect.count is.working);
-  returns = all-pushed-holds core.returns op_effect.passes is.returns;
-}
+row-machine true mode core op_effect is size = search (arith, rules, all-pushed-holds, dropped-holds)
+row-machine false mode core op_effect is size = search (arith, rules, all-pushed-holds, dropped-holds)
 
 pub side-memory : (returns : Bool) (core : Core) → (sides_of returns core).memory ≡ core.memory
 side-memory true core = refl
@@ -84,10 +74,7 @@ by_code true second third code core is =
     elim (byte_below core.working 0 == 0) as (λ b. SameMemory core (cond b (record core { working = lowered core.working 1; at = (core.at + 2) % 65536 })
     (record (jumped core) { working = lowered core.working 1 }))) [ true ↦ search rules | false ↦ search rules ]
 by_code false true third code core is = search rules
-by_code false false true code core is = record {
-  memory = refl;
-  machine = record { memory = is.memory; working = is.working; returns = pushed-holds core.returns Short _ is.returns };
-}
+by_code false false true code core is = search (arith, rules, pushed-holds)
 by_code false false false code core is = side-pushed (mode_of code).returns core (mode_of code).width _ _ is
 
 pub immediate-machine : (code : ℕ) (core : Core) → IsMachine core → SameMemory core (immediate code core)

@@ -1,7 +1,7 @@
 -- What a change of memory leaves alone.
-use Rattle.uxn_undo.proofs.Common.{◌≡◌, ◌≢◌, ℕ, ◌+◌, ◌-◌, ◌%◌, ◌==◌, ◌<◌, ◌≤◌, Bool, true, false, List, length, refl, sym, ◌∙◌, inl, inr, arith}
-use Rattle.uxn_undo.proofs.Common.{slice_set, cases_Bool, eqb-true, nat_tests, Span, address_after_span, covers, span_in_bank, DiffersWithin}
-use Rattle.std.proofs.Common.{true≢false}
+use Rattle.uxn_undo.proofs.Common.{◌≡◌, ◌≢◌, ℕ, ◌+◌, ◌-◌, ◌%◌, ◌<◌, ◌≤◌, Bool, true, false, List, length, refl, sym, ◌∙◌, arith}
+use Rattle.uxn_undo.proofs.Common.{slice_set, eqb-true, nat_tests, Span, address_after_span, covers, DiffersWithin}
+use Rattle.std.proofs.Common.{true≢false, rules}
 use Rattle.std.proofs.lemmas.List.{get_or-set_other, length-set}
 use Rattle.system_port.specs.declared.expansions.BankRange.{BankRange}
 use Rattle.system_port.specs.RangeLaws.{ChangesWithin}
@@ -35,27 +35,8 @@ same-memory span memory = record { within = λ at small out. refl; size = omega 
 -- one of these bytes more is stored
 pub one-set : (span : Span) (k place value : ℕ) (before after : List ℕ) → k < span.count → place ≡ address_after_span span k
     → Changes span before after → Changes span before (slice_set after place value)
-one-set span k place value before after less is changes = record {
-  within = λ at small out.
-      changes.within at small out ∙ sym (get_or-set_other after place at value 0 (λ e. misses span at k out less (e ∙ is)));
-  size = omega (arith, changes.size, length-set after place value);
-}
+one-set = search (arith, rules, get_or-set_other, length-set, misses)
 
 -- so is what stays outside of a range: of one in another bank all of bank 0 does
 pub range-changes : (range : BankRange) (before after : List ℕ) → ChangesWithin range before after → Changes (span_of_range range) before after
-range-changes range before after changes =
-    elim (cases_Bool (range.bank == 0)) [
-      | inl is ↦
-          let here : range.bank ≡ 0 = eqb-true range.bank 0 is in
-          rw is (record {
-            within = λ at small out.
-                sym (changes.same at (λ k less e. misses (span_in_bank range.first range.count) at k out less (e ∙ omega arith)));
-            size = omega (arith, changes.size);
-          })
-      | inr not ↦
-          let other : 0 < range.bank = grind (arith, nat_tests) in
-          rw not (record {
-            within = λ at small out. sym (changes.same at (λ k less e. absurd (omega arith)));
-            size = omega (arith, changes.size);
-          })
-    ]
+range-changes = search (arith, rules, eqb-true, misses)

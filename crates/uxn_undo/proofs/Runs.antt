@@ -1,5 +1,6 @@
 -- The moments of the reference run are in a row.
-use Rattle.uxn_undo.proofs.Common.{◌≡◌, ℕ, zero, suc, List, [], ◌∷◌, ◌++◌, take, drop, refl, ◌∙◌, map, GivenMoments, Follow, IsMachine}
+use Rattle.std.proofs.Common.{rules}
+use Rattle.uxn_undo.proofs.Common.{◌≡◌, ℕ, zero, suc, List, [], ◌∷◌, ◌++◌, take, drop, refl, map, GivenMoments, Follow, IsMachine, arith}
 use Rattle.std.proofs.lemmas.List.{map-append}
 use mathlib.Core.List.{reverse_aux}
 use Rattle.vector_loop.specs.declared.output.Outputs.{Outputs}
@@ -17,9 +18,7 @@ record Joined (first more : List GivenMoments) (middle last : List ℕ) : Type 0
 in-row-joined : (first more : List GivenMoments) (middle last : List ℕ) → InRow first middle → memory_next more last ≡ middle → InRow more last
     → Joined first more middle last
 in-row-joined [] more middle last one same two = record { row = two; begins = same }
-in-row-joined (given ∷ first) more middle last one same two =
-    let rest = in-row-joined first more middle last one.1 same two in
-    record { row = (rw rest.begins one.0, rest.row); begins = refl }
+in-row-joined (given ∷ first) more middle last one same two = search (arith, rules, in-row-joined first)
 
 -- a part of a run, from a memory on
 record RunsOn (memory : List ℕ) (trace : Trace) : Type 0 where
@@ -29,15 +28,7 @@ record RunsOn (memory : List ℕ) (trace : Trace) : Type 0 where
 
 followed : (memory : List ℕ) (first : Trace) (rest : State → Trace) → RunsOn memory first → RunsOn first.last.core.memory (rest first.last)
     → RunsOn memory (followed_by first rest)
-followed memory first rest one two =
-    let both = in-row-joined (map given_at first.moments) (map given_at (rest first.last).moments) first.last.core.memory (rest first.last).last.core.memory
-    one.row two.begins two.row in
-    let split = map-append given_at first.moments (rest first.last).moments in
-    record {
-      begins = rw split (both.begins ∙ one.begins);
-      row = rw split both.row;
-      machine = two.machine;
-    }
+followed = search (arith, rules, in-row-joined, map-append)
 
 part-runs : (outputs : Outputs) → HoldsOn outputs (λ state part. IsMachine state.core → RunsOn state.core.memory part)
 part-runs outputs = record {
@@ -62,8 +53,7 @@ follows_on : (later earlier : List GivenMoments) (last : List ℕ) (count : ℕ)
     → Follow (reverse_aux (take count later) earlier) (memory_next (drop count later) last)
 follows_on later earlier last zero follow row = follow
 follows_on [] earlier last (suc count) follow row = follow
-follows_on (given ∷ later) earlier last (suc count) follow row =
-    follows_on later (given ∷ earlier) last count (row.0, follow) row.1
+follows_on (given ∷ later) earlier last (suc count) follow row = search (arith, rules, follows_on later)
 
 pub run_law : RunLaw
 run_law = record {

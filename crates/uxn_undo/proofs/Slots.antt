@@ -1,7 +1,8 @@
 -- The rows of the moments that are held stay where they are when the next one is put.
-use Rattle.uxn_undo.proofs.Common.{◌≡◌, ◌≢◌, ℕ, zero, suc, ◌+◌, ◌%◌, ◌<◌, ◌≤◌, ◌==◌, cond, List, [], ◌∷◌, ◌++◌, length, take, drop, Some, None}
-use Rattle.uxn_undo.proofs.Common.{refl, sym, ap, ◌∙◌, arith, slice_get, slice_index_or, sum_by, Option, option_map, nat_tests, length-take}
-use Rattle.uxn_undo.proofs.Common.{sum_by-cons, Row, Record, Kept, entry_count, moment_of, moments_in, row_in, row_of, no_row}
+use Rattle.std.proofs.Common.{rules}
+use Rattle.uxn_undo.proofs.Common.{◌≡◌, ◌≢◌, ℕ, zero, suc, ◌+◌, ◌%◌, ◌<◌, ◌≤◌, ◌==◌, cond, List, [], ◌∷◌, ◌++◌, length, take, Some, None}
+use Rattle.uxn_undo.proofs.Common.{refl, ap, ◌∙◌, arith, slice_get, slice_index_or, sum_by, Option, option_map, length-take}
+use Rattle.uxn_undo.proofs.Common.{sum_by-cons, Row, Record, Kept, entry_count, moment_of, moments_in, row_in, no_row}
 use Rattle.uxn_undo.specs.Slots.{slot_before, InOrder, AreSlots}
 use Rattle.uxn_undo.proofs.Joined.{moments-push}
 
@@ -14,9 +15,7 @@ in_order-take (suc n) size next (newest ∷ older) order = (order.0, order.1, or
 -- more slots
 pub in_order-more : (size more next : ℕ) (records : List Record) → size ≤ more → InOrder size next records → InOrder more next records
 in_order-more size more next [] le order = tt
-in_order-more size more next (newest ∷ older) le order =
-    let within : newest.slot < size = order.1 in
-    (order.0, omega arith, order.2, in_order-more size more (slot_before next) older le order.3)
+in_order-more size more next (newest ∷ older) le order = search (arith, rules, in_order-more size more (slot_before next) older)
 
 -- rows that are the same but in one slot
 abbrev pub SameBut : ℕ → ℕ → List Row → List Row → Type 0
@@ -28,22 +27,10 @@ same_rows : (size slot next gap : ℕ) (records : List Record) (bytes : List ℕ
 unfolding moments_in
 same_rows size slot next gap [] bytes before now same small here few order = refl
 same_rows size slot next gap (newest ∷ older) bytes before now same small here few order =
-    let at : newest.slot ≡ (next + 65535) % 65536 = order.0 in
-    let fewer : gap + suc (length older) < 65536 = few in
-    let other : newest.slot ≢ slot = λ e. absurd (omega arith) in
-    let rest = drop (entry_count newest) bytes in
-    ap (λ row. moment_of newest row (take (entry_count newest) bytes) ∷ moments_in now older rest) (same newest.slot no_row order.1 other)
-    ∙ ap (λ (z : List Kept). moment_of newest (row_of before newest) (take (entry_count newest) bytes) ∷ z)
-    (same_rows size slot (slot_before next) (gap + 1) older rest before now same (omega arith) (omega arith) (omega arith) order.3)
+    search (arith, rules, same_rows size slot (slot_before next) (gap + 1) older)
 
 pub fewer_slots : (n size room next : ℕ) (records : List Record) → 0 < n → AreSlots size room next records → AreSlots size room next (take n records)
-fewer_slots n size room next records some slots = record {
-  next_slot = slots.next_slot;
-  small = slots.small;
-  whole = slots.whole;
-  order = in_order-take n size next records slots.order;
-  written = λ has. let held = slots.written has in omega (arith, length-take n records, held, some);
-}
+fewer_slots = search (arith, rules, in_order-take, length-take)
 
 -- one moment alone keeps few bytes
 pub alone-small : (size next : ℕ) (records : List Record) → InOrder size next records → length records ≤ 1 → sum_by entry_count records < 65536
@@ -78,15 +65,4 @@ put_moment size newest row records bytes others before now same here small few o
 pub put_slots : (size room slot more large next : ℕ) (newest : Record) (records : List Record) → AreSlots size room slot records → newest.slot ≡ slot
     → slot < 65536 → newest.span.count < 65536 → more ≡ cond (slot == size) (size + 1) size → 65536 ≤ large → next ≡ (slot + 1) % 65536
     → AreSlots more large next (newest ∷ records)
-put_slots size room slot more large next newest records slots is small short grown whole after =
-    let at_most : slot ≤ size = slots.next_slot in
-    let kept : size ≤ more = grind (arith, nat_tests) in
-    let within : slot < more = grind (arith, nat_tests) in
-    let back : slot_before next ≡ slot = omega arith in
-    record {
-      next_slot = omega arith;
-      small = omega arith;
-      whole = whole;
-      order = (is ∙ sym back, rw is within, short, rw back (in_order-more size more slot records kept slots.order));
-      written = λ has. omega arith;
-    }
+put_slots = search (arith, rules, in_order-more)

@@ -263,12 +263,14 @@ fn put_bytes(bytes: &mut HeapCircularBuffer<u8>, memory: &Memory, span: Span)
 }
 
 /// What keeps one moment after another holds the newest of all of them, as many as there is room for.
+#[tactic(auto, using(crate::proofs::Holding::holding_law))]
 pub fn the_newest_moments_are_held()
     ensures { HoldingLaw }
 {}
 
 /// Where each moment's memory differs from the next one's only within the bytes that are kept for it, going back gives the
 /// byte of the memory of the moment gone to.
+#[tactic(auto, using(crate::proofs::GoingBack::going_back_law))]
 pub fn going_back_gives_the_moment()
     ensures { GoingBackLaw }
 {}

@@ -1,6 +1,8 @@
 -- What each change of the places is to the tree that they represent.
-use Rattle.std.proofs.Common.{◌≡◌, ℕ, zero, suc, ◌+◌, ◌-◌, ◌<◌, ◌≤◌, Bool, true, false, ◌&&◌, List, [], ◌∷◌, ◌++◌, take, length, get_or, set, Option, Some, None, IsSome, is_some, is_none, Result, Ok, Err, refl, ap, sym, subst, ◌∙◌, arith, length-append}
-use Rattle.std.specs.Prelude.{if◌then◌else◌, nat_eq}
+use Rattle.std.proofs.lemmas.Grind.{common_steps}
+use Rattle.std.proofs.Common.{◌≡◌, ℕ, zero, suc, ◌+◌, ◌-◌, ◌<◌, ◌≤◌, Bool, true, false, ◌&&◌, List, [], ◌∷◌, ◌++◌, take, length, get_or, set, Option}
+use Rattle.std.proofs.Common.{Some, None, IsSome, is_some, is_none, Result, Ok, Err, refl, ap, sym, ◌∙◌, arith, length-append}
+use Rattle.std.specs.Prelude.{if◌then◌else◌}
 use Rattle.std.specs.List.{All, insert, remove}
 use Rattle.std.specs.Option.{unwrap_or}
 use Rattle.std.specs.FinMap as map
@@ -10,7 +12,7 @@ use Rattle.std.proofs.lemmas.List.Elements.{All-get_or}
 use Rattle.uxn_io.specs.declared.memory.trees.Node.{Node as StoredNode}
 use Rattle.uxn_io_traits.specs.ByteList.{HasRoom, ByteList}
 use Rattle.uxn_io_traits.specs.Files.{Node, File, Folder, Nodes, IsTree, is_folder, has_parent, bytes_of, file_at, file_bytes_at}
-use Rattle.uxn_io_traits.specs.Changes.{can_create, with_created, makes_file, new_files, with_appended, with_removed}
+use Rattle.uxn_io_traits.specs.Changes.{can_create, with_created, makes_file, new_files, with_appended}
 use Rattle.uxn_io_traits.specs.PathText.{path_of}
 use Rattle.uxn_io.specs.InMemory.Places.{Places, node_of, nodes_of, place_of, AreOrdered, IsPlace, IsFree, ArePlaces, emptied, grown}
 use Rattle.uxn_io.specs.InMemory.Trees.{created, lacks_place, appended, fitting, removed}
@@ -69,34 +71,23 @@ pub make_held : (held : List (List ℕ × StoredNode)) (free rest : List ByteLis
 make_held held free rest room c1 c2 d1 d2 path at bytes are is text can fits spares count more1 more2 =
     insert_held held free rest room c1 c2 d1 d2 path at _ bytes.list are is text (parent_there (nodes_of held) path can) (no_folder (nodes_of held) path can) refl fits spares count more1 more2
 
-pub make_created : (held : List (List ℕ × StoredNode)) (n m room : ℕ) (path : List ℕ) (at : ℕ) (bytes : ByteList) → AreOrdered held → Err at ≡ place_of path held → can_create (nodes_of held) path ≡ true → bytes.list ≡ [] → n ≡ m + 1 → observed (insert held at (path, record { folder = false; bytes = bytes })) m room ≡ created (observed held n room) path
-make_created held n m room path at bytes ordered is can none count =
-    let nodes : nodes_of (insert held at (path, record { folder = false; bytes = bytes })) ≡ with_created path (nodes_of held) =
-    insert_nodes held path at (record { folder = false; bytes = bytes }) ordered is
-    ∙ ap (λ (z : List ℕ). map.insert (nodes_of held) path (File z)) none
-    ∙ ap (λ (b : Bool). if b then map.insert (nodes_of held) path (File []) else nodes_of held) (sym can) in
-    let new : makes_file (nodes_of held) path ≡ true = ap (λ (node : Option Node). can_create (nodes_of held) path && is_none node) (get_nowhere held path at ordered is) ∙ ap (λ (b : Bool). b && true) can in
-    let less : m ≡ n - new_files (nodes_of held) path = omega (arith, ap {B = ℕ} (λ (b : Bool). if b then 1 else 0) new) in
-    λ i. record { nodes = nodes i; free = less i; room = room }
+pub make_created : (held : List (List ℕ × StoredNode)) (n m room : ℕ) (path : List ℕ) (at : ℕ) (bytes : ByteList) → AreOrdered held
+    → Err at ≡ place_of path held → can_create (nodes_of held) path ≡ true → bytes.list ≡ [] → n ≡ m + 1
+    → observed (insert held at (path, record { folder = false; bytes = bytes })) m room ≡ created (observed held n room) path
+make_created held n m room path at bytes ordered is can none count = grind (arith, common_steps, get_nowhere, insert_nodes, is_none)
 
 pub zero_from : (n : ℕ) → (0 < n → false ≡ true) → n ≡ 0
 zero_from zero h = refl
 zero_from (suc n) h = let no : false ≡ true = h (omega arith) in cc
 
 -- a place is free where a file can be made
-pub some_free : (held : List (List ℕ × StoredNode)) (n room : ℕ) (path : List ℕ) (at : ℕ) → AreOrdered held → Err at ≡ place_of path held → can_create (nodes_of held) path ≡ true → lacks_place (observed held n room) path ≡ false → n ≡ 0 → ⊥
-some_free held n room path at ordered is can lacks none =
-    let new : makes_file (nodes_of held) path ≡ true = ap (λ (node : Option Node). can_create (nodes_of held) path && is_none node) (get_nowhere held path at ordered is) ∙ ap (λ (b : Bool). b && true) can in
-    let no : true ≡ false = sym (ap (λ (k : ℕ). nat_eq k 0 && makes_file (nodes_of held) path) none ∙ new) ∙ lacks in
-    cc
+pub some_free : (held : List (List ℕ × StoredNode)) (n room : ℕ) (path : List ℕ) (at : ℕ) → AreOrdered held → Err at ≡ place_of path held
+    → can_create (nodes_of held) path ≡ true → lacks_place (observed held n room) path ≡ false → n ≡ 0 → ⊥
+some_free held n room path at ordered is can lacks none = grind (arith, common_steps, get_nowhere, is_none)
 
 -- a path where a file stands is in a folder, and no folder
 stands_in : (nodes : Nodes) (path : List ℕ) → IsTree nodes → IsSome (file_at nodes path) → has_parent nodes path ≡ true
-stands_in nodes path tree file =
-    elim (map.get nodes path) as (λ o. map.get nodes path ≡ o → IsSome (bytes_of o) → has_parent nodes path ≡ true) [
-      | None ↦ λ e h. cc
-      | Some node ↦ λ e h. let P : Option Node → Type 0 = λ o. IsSome o in tree.parents path (subst P (sym e) refl)
-    ] refl file
+stands_in nodes path tree file = grind (arith, common_steps)
 
 file_no_folder : (node : Option Node) → IsSome (bytes_of node) → is_folder node ≡ false
 file_no_folder None h = cc
@@ -113,17 +104,15 @@ bytes_there held path at d ordered is file =
     ∙ bytes_of_file (get_or held at d).1 (flag_there held path at d ordered is (file_no_folder _ file))
 
 -- a file stands at a place
-pub file_nowhere : (held : List (List ℕ × StoredNode)) (path : List ℕ) (at : ℕ) → AreOrdered held → Err at ≡ place_of path held → IsSome (file_at (nodes_of held) path) → ⊥
-file_nowhere held path at ordered is file =
-    let P : Option Node → Type 0 = λ o. IsSome (bytes_of o) in
-    let no : false ≡ true = subst P (get_nowhere held path at ordered is) file in
-    cc
+pub file_nowhere : (held : List (List ℕ × StoredNode)) (path : List ℕ) (at : ℕ) → AreOrdered held → Err at ≡ place_of path held
+    → IsSome (file_at (nodes_of held) path) → ⊥
+file_nowhere held path at ordered is file = grind (arith, common_steps, get_nowhere)
 
 -- there is room for what fits
-pub room_there : (held : List (List ℕ × StoredNode)) (free : List ByteList) (room c1 c2 : ℕ) (path : List ℕ) (at : ℕ) (d : List ℕ × StoredNode) → ArePlaces held free room c1 c2 → Ok at ≡ place_of path held → IsSome (file_at (nodes_of held) path) → room - length (file_bytes_at (nodes_of held) path) ≡ (get_or held at d).1.bytes.spare
-room_there held free room c1 c2 path at d are is file =
-    let fits = (All-get_or (IsPlace room) held at d (within_there path held at is) are.places).fits in
-    omega (arith, fits, ap length (bytes_there held path at d are.ordered is file))
+pub room_there : (held : List (List ℕ × StoredNode)) (free : List ByteList) (room c1 c2 : ℕ) (path : List ℕ) (at : ℕ) (d : List ℕ × StoredNode)
+    → ArePlaces held free room c1 c2 → Ok at ≡ place_of path held → IsSome (file_at (nodes_of held) path)
+    → room - length (file_bytes_at (nodes_of held) path) ≡ (get_or held at d).1.bytes.spare
+room_there held free room c1 c2 path at d are is file = grind (arith, common_steps, bytes_there, within_there)
 
 -- a file has no more bytes than the room
 pub within_room : (held : List (List ℕ × StoredNode)) (free : List ByteList) (room c1 c2 : ℕ) (path : List ℕ) → ArePlaces held free room c1 c2 → length (file_bytes_at (nodes_of held) path) ≤ room
@@ -168,8 +157,6 @@ append_appended held n room path piece count at d ordered is file fits some =
 pub take_held : (held : List (List ℕ × StoredNode)) (free more : List ByteList) (room c1 c2 d1 d2 : ℕ) (path : List ℕ) (at : ℕ) → ArePlaces held free room c1 c2 → Ok at ≡ place_of path held → IsSome (file_at (nodes_of held) path) → All (IsFree room) more → length more ≡ length free + 1 → c1 ≤ d1 → c2 ≤ d2 → ArePlaces (remove held at) more room d1 d2
 take_held held free more room c1 c2 d1 d2 path at are is file = remove_held held free more room c1 c2 d1 d2 path at are is (file_no_folder _ file)
 
-pub take_removed : (held : List (List ℕ × StoredNode)) (n m room : ℕ) (path : List ℕ) (at : ℕ) → AreOrdered held → Ok at ≡ place_of path held → is_some (file_at (nodes_of held) path) ≡ true → m ≡ n + 1 → observed (remove held at) m room ≡ removed (observed held n room) path
-take_removed held n m room path at ordered is file count =
-    let nodes : nodes_of (remove held at) ≡ with_removed path (nodes_of held) = remove_nodes held path at ordered is ∙ ap (λ (b : Bool). if b then map.remove (nodes_of held) path else nodes_of held) (sym file) in
-    let more : m ≡ (if is_some (file_at (nodes_of held) path) then n + 1 else n) = count ∙ ap (λ (b : Bool). if b then n + 1 else n) (sym file) in
-    λ i. record { nodes = nodes i; free = more i; room = room }
+pub take_removed : (held : List (List ℕ × StoredNode)) (n m room : ℕ) (path : List ℕ) (at : ℕ) → AreOrdered held → Ok at ≡ place_of path held
+    → is_some (file_at (nodes_of held) path) ≡ true → m ≡ n + 1 → observed (remove held at) m room ≡ removed (observed held n room) path
+take_removed held n m room path at ordered is file count = grind (arith, common_steps, is_some, remove_nodes)

@@ -1,7 +1,8 @@
 -- The children among nodes that are held in order.
-use Rattle.std.proofs.Common.{◌≡◌, ℕ, ◌+◌, ◌<◌, List, [], ◌∷◌, ◌++◌, drop, length, get_or, map as list_map, Option, Some, None, Result, Ok, Err, IfOk, refl, ap, sym, ◌∙◌, append_assoc}
+use Rattle.std.proofs.Common.{arith, ◌≡◌, ℕ, ◌+◌, ◌<◌, List, [], ◌∷◌, ◌++◌, drop, length, get_or, map as list_map, Option, Result, Ok, Err, IfOk}
+use Rattle.std.proofs.Common.{refl, ap}
+use Rattle.std.proofs.lemmas.Grind.{common_steps}
 use Rattle.std.specs.Option.{option_to_list}
-use Rattle.std.proofs.lemmas.List.{drop_more, append-nil}
 use Rattle.uxn_io_traits.specs.declared.trees.Entry.{Entry}
 use Rattle.std.specs.List.{filter_map, cons_option}
 use Rattle.uxn_io.specs.declared.memory.trees.Node.{Node as StoredNode}
@@ -13,23 +14,14 @@ filter_map-map : {X Y Z : Type 0} (f : X → Y) (h : Y → Option Z) (xs : List 
 filter_map-map f h [] = refl
 filter_map-map f h (x ∷ xs) = ap (cons_option (h (f x))) (filter_map-map f h xs)
 
-joined : (listed rest : List Entry) (found : Option Entry) → (listed ++ option_to_list found) ++ rest ≡ listed ++ cons_option found rest
-joined listed rest None = ap (λ (z : List Entry). z ++ rest) (append-nil listed)
-joined listed rest (Some x) = append_assoc listed (x ∷ []) rest
-
 -- the children of a folder are listed in the order in which the nodes are held
-pub children_held : (held : List (List ℕ × StoredNode)) (folder : List ℕ) → AreOrdered held → filter_map (λ h. entry_in folder (place_entry h)) held ≡ children (nodes_of held) folder
-children_held held folder ordered =
-    sym (ap (filter_map (entry_in folder)) (entries-nodes_of held ordered) ∙ filter_map-map place_entry (entry_in folder) held)
+pub children_held : (held : List (List ℕ × StoredNode)) (folder : List ℕ) → AreOrdered held
+    → filter_map (λ h. entry_in folder (place_entry h)) held ≡ children (nodes_of held) folder
+children_held held folder ordered = grind (arith, common_steps, entries-nodes_of, filter_map-map)
 
 -- one node more was listed, or is none of the folder
 pub listed_more : (folder : List ℕ) (held : List (List ℕ × StoredNode)) (n : ℕ) (e : List ℕ × StoredNode) (listed now : List Entry) (found : Option Entry) → n < length held → e ≡ get_or held n e → found ≡ entry_in folder (place_entry e) → now ≡ listed ++ option_to_list found → now ++ filter_map (λ h. entry_in folder (place_entry h)) (drop (n + 1) held) ≡ listed ++ filter_map (λ h. entry_in folder (place_entry h)) (drop n held)
-listed_more folder held n e listed now found lt is entry grown =
-    let rest = filter_map (λ h. entry_in folder (place_entry h)) (drop (n + 1) held) in
-    ap (λ (z : List Entry). z ++ rest) grown
-    ∙ joined listed rest found
-    ∙ ap (λ (o : Option Entry). listed ++ cons_option o rest) entry
-    ∙ sym (ap (λ (z : List (List ℕ × StoredNode)). listed ++ filter_map (λ h. entry_in folder (place_entry h)) z) (drop_more held n e lt ∙ ap (λ (z : List ℕ × StoredNode). z ∷ drop (n + 1) held) (sym is)))
+listed_more folder held n e listed now found lt is entry grown = grind (arith, common_steps)
 
 -- what holds of every value that is answered
 pub if_ok : {T E : Type 0} (P Q : T → Type 0) (r : Result T E) → ((x : T) → P x → Q x) → IfOk r P → IfOk r Q

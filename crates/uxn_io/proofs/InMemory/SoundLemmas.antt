@@ -1,16 +1,16 @@
 -- Nodes that a tree can hold are a tree.
-use Rattle.std.proofs.Common.{◌≡◌, ℕ, Bool, true, false, cond, inl, inr, ◌+◌, ◌<◌, List, [], ◌∷◌, drop, length, get_or, Option, Some, IsSome, Result, Ok, Err, refl, ap, sym, subst, ◌∙◌}
+use Rattle.std.proofs.Common.{arith, ◌≡◌, ℕ, Bool, true, false, cond, inl, inr, ◌+◌, ◌<◌, List, [], ◌∷◌, drop, length, get_or, Option, Some, IsSome}
+use Rattle.std.proofs.Common.{Result, Ok, Err, refl, ap, sym, subst, ◌∙◌}
+use Rattle.std.proofs.lemmas.Grind.{common_steps}
 use Rattle.std.specs.List.{All, list_all}
 use Rattle.std.specs.Cmp.Lexicographic.{nat_list_cmp_total}
 use Rattle.std.specs.FinMap as map
 use Rattle.std.specs.FinMap.Entries.{find}
 use Rattle.std.proofs.lemmas.List.Elements.{All-get_or}
 use Rattle.uxn_io.specs.declared.memory.trees.Node.{Node as StoredNode}
-use Rattle.std.specs.Prelude.{if◌then◌else◌}
 use Rattle.std.proofs.lemmas.Bool.{and_parts}
-use Rattle.std.proofs.lemmas.List.{drop_more}
 use Rattle.uxn_io_traits.specs.ByteList.{ByteList}
-use Rattle.uxn_io_traits.specs.Files.{Node, File, Folder, Nodes, IsTree, has_parent}
+use Rattle.uxn_io_traits.specs.Files.{Node, Nodes, IsTree, has_parent}
 use Rattle.uxn_io_traits.specs.PathText.{path_of}
 use Rattle.uxn_io.specs.InMemory.Places.{node_of, nodes_of, place_of, AreOrdered, IsPlace}
 use Rattle.uxn_io.specs.InMemory.Trees.{is_sound, can_hold}
@@ -50,9 +50,7 @@ held_tree nodes held room sound same ordered places = record {
 }
 
 -- one node more was copied
-pub copied : (nodes : List (List ℕ × StoredNode)) (i j : ℕ) (e : List ℕ × StoredNode) (bytes : ByteList) (m new : Nodes) → i < length nodes → j ≡ i + 1 → e ≡ get_or nodes i e → m ≡ nodes_of (drop j nodes) → bytes.list ≡ e.1.bytes.list → new ≡ map.insert m e.0 (node_of (record { folder = e.1.folder; bytes = bytes })) → new ≡ nodes_of (drop i nodes)
-copied nodes i j e bytes m new lt next is before same after =
-    after
-    ∙ ap (λ (z : Nodes). map.insert z e.0 (node_of (record { folder = e.1.folder; bytes = bytes }))) (before ∙ ap (λ (k : ℕ). nodes_of (drop k nodes)) next)
-    ∙ ap (λ (z : List ℕ). map.insert (nodes_of (drop (i + 1) nodes)) e.0 (if e.1.folder then Folder else File z)) same
-    ∙ sym (ap nodes_of (drop_more nodes i e lt ∙ ap (λ (z : List ℕ × StoredNode). z ∷ drop (i + 1) nodes) (sym is)))
+pub copied : (nodes : List (List ℕ × StoredNode)) (i j : ℕ) (e : List ℕ × StoredNode) (bytes : ByteList) (m new : Nodes) → i < length nodes
+    → j ≡ i + 1 → e ≡ get_or nodes i e → m ≡ nodes_of (drop j nodes) → bytes.list ≡ e.1.bytes.list
+    → new ≡ map.insert m e.0 (node_of (record { folder = e.1.folder; bytes = bytes })) → new ≡ nodes_of (drop i nodes)
+copied nodes i j e bytes m new lt next is before same after = grind (arith, common_steps)

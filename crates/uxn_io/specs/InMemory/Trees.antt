@@ -197,7 +197,8 @@ calls_code =
 abbrev pub tree_code : Coded TreeInMemory
 tree_code =
     code_by (Places × (List (TreeCall × ℕ) × (Calls × (ℕ × (ℕ × Option (List ℕ))))))
-    (coded× places_code (coded× (coded_list (coded× call_code coded_ℕ)) (coded× calls_code (coded× coded_ℕ (coded× coded_ℕ (coded_option (coded_list coded_ℕ)))))))
+    (coded× places_code (coded× (coded_list (coded× call_code coded_ℕ))
+    (coded× calls_code (coded× coded_ℕ (coded× coded_ℕ (coded_option (coded_list coded_ℕ)))))))
     (λ t. (t.held, (t.fails, (t.calls, (t.faults, (t.refused.count, t.refused.last))))))
     (λ p. record {
       held = p.0;

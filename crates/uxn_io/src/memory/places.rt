@@ -1,5 +1,7 @@
 //! The nodes of a tree in memory, and places for more.
-ghost use Rattle.std.specs.Prelude.{◌≡◌, ◌≢◌, ℕ, ◌+◌, ◌-◌, ◌≤◌, ◌<◌, ◌++◌, ◌&&◌, ◌==◌, false, [], ◌∷◌, min, nat_le, length, take, drop, not, vec_len, vec_capacity, slice_index_or, slice_set, unwrap_or, option_map, is_some, is_none, IsTrue, IsSome, IfSome, IfOk, Ok, Err};
+ghost use Rattle.std.specs.Prelude.{◌≡◌, ◌≢◌, ℕ, ◌+◌, ◌-◌, ◌≤◌, ◌<◌, ◌++◌, ◌&&◌, ◌==◌, false, [], ◌∷◌, min, nat_le, length, take, drop, not, vec_len};
+ghost use Rattle.std.specs.Prelude.{vec_capacity, slice_index_or, slice_set, unwrap_or, option_map};
+ghost use Rattle.std.specs.Prelude.{is_some, is_none, IsTrue, IsSome, IfSome, IfOk, Ok, Err};
 ghost use Rattle.std.specs.List.{All, filter_map, insert};
 ghost use Rattle.std.specs.Option.{option_copied};
 ghost use Rattle.std.specs.FinMap as map;

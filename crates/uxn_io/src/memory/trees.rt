@@ -1,5 +1,6 @@
 //! A tree in memory, which fails on demand.
-ghost use Rattle.std.specs.Prelude.{◌≡◌, ◌+◌, ◌<◌, ◌≤◌, ◌==◌, ◌&&◌, ◌||◌, ◌++◌, ◌∷◌, [], None, false, min, count_by, length, take, drop, option_map, is_err, is_some, IsTrue, IsSome, IfOk, IfSome, OnOk, if◌then◌else◌};
+ghost use Rattle.std.specs.Prelude.{◌≡◌, ◌+◌, ◌<◌, ◌≤◌, ◌==◌, ◌&&◌, ◌||◌, ◌++◌, ◌∷◌, [], None, false, min, count_by, length};
+ghost use Rattle.std.specs.Prelude.{take, drop, option_map, is_err, is_some, IsTrue, IsSome, IfOk, IfSome, OnOk, if◌then◌else◌};
 ghost use Rattle.std.specs.List.{All, list_any};
 ghost use Rattle.std.specs.Str.{bytes_eq};
 ghost use Rattle.std.specs.Option.{option_copied};
@@ -249,7 +250,8 @@ impl Tree for MemTree {
     fn read(&mut self, path: &Path, from: u64, into: &mut [u8]) -> Result<usize, Failed>
         ensures count { IfOk result (λ n. n ≤ length into.old) }
         ensures rest { IfOk result (λ n. drop n into.new ≡ drop n into.old) }
-        ensures answer { IfOk result (λ n. IfSome (state_of self.old).contents (λ nodes. GivesBytes (file_bytes_from nodes path.now from) into.old into.new n)) }
+        ensures answer { IfOk result (λ n. IfSome (state_of self.old).contents
+            (λ nodes. GivesBytes (file_bytes_from nodes path.now from) into.old into.new n)) }
         ensures looked { TreeLooked (is_err result) (state_of self.old) (state_of self.new) }
         ensures requests { Receives (begins_reading path.now from) (state_of self.old).requests (state_of self.new).requests }
 
@@ -293,8 +295,10 @@ impl Tree for MemTree {
         ensures refused { Refused None (state_of self.old) (state_of self.new) }
         ensures requests { Receives (AppendsTo path.now ∷ []) (state_of self.old).requests (state_of self.new).requests }
 
-        ensures exact { result ≡ answer_of TreeCall.Append self.old (lacks_room self.old.held path.now piece.now) (fitting self.old.held path.now piece.now) }
-        ensures after { self.new ≡ after TreeCall.Append self.old (lacks_room self.old.held path.now piece.now) (appended self.old.held path.now piece.now) }
+        ensures exact { result ≡ answer_of TreeCall.Append self.old (lacks_room self.old.held path.now piece.now)
+            (fitting self.old.held path.now piece.now) }
+        ensures after { self.new ≡ after TreeCall.Append self.old (lacks_room self.old.held path.now piece.now)
+            (appended self.old.held path.now piece.now) }
     {
         let lacking = self.held.lacks_room(path, piece);
         if self.begin(TreeCall::Append, lacking) {

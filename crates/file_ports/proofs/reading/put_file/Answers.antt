@@ -1,8 +1,8 @@
-use Rattle.std.proofs.Common.{◌≡◌, ◌+◌, [], true, false, Err, rules, ◌++◌, ℕ, ap, take, drop, refl, sym, arith}
+use Rattle.std.proofs.lemmas.Grind.{common_steps}
+use Rattle.std.proofs.Common.{◌+◌, false, ◌++◌, ℕ, ap, take, drop, arith}
 use Rattle.std.proofs.lemmas.List.{length-take, length-append, take-append-le}
-use Rattle.uxn_io_traits.specs.EndedLaws.{looked-nothing, looked-then}
-use Rattle.file_ports.proofs.MemoryLemmas.{with_nothing}
-use Rattle.file_ports.proofs.ReadLemmas.{gives_nothing, known_more, known_end, put_more, prefix_put}
+use Rattle.uxn_io_traits.specs.EndedLaws.{looked-then}
+use Rattle.file_ports.proofs.ReadLemmas.{known_more, known_end, put_more}
 use Rattle.file_ports.proofs.reading.put_file.Goals as goal
 
 pub loop-done-preserved : goal.loop-done-preserved
@@ -30,25 +30,13 @@ returns-then-taken-eq0-clause-piece g c =
     (ap (λ (n : ℕ). c.args.place + n) c.from-in-loop-done.ensures) c.loop-done.invariant.tree.contents c.loop-done.invariant.contents c.in_ok-taken.ensures.answer c.if-taken-eq0.true (omega (arith, size)) c.loop-done.invariant.within
 
 pub returns-then-taken-eq0-clause-tree : goal.returns-then-taken-eq0-clause-tree
-returns-then-taken-eq0-clause-tree g c =
-    looked-then false _ _ _ c.loop-done.invariant.tree c.in_ok-taken.ensures.looked
+returns-then-taken-eq0-clause-tree g c = grind (arith, common_steps)
 
 pub returns-in_err-taken-clause-tree : goal.returns-in_err-taken-clause-tree
-returns-in_err-taken-clause-tree g c =
-    let result : c.from_residual.result ≡ Err c.in_err-taken.field-0.0 = search rules in
-    rw result (looked-then true _ _ _ c.loop-done.invariant.tree c.in_err-taken.ensures.looked)
+returns-in_err-taken-clause-tree g c = grind (arith, common_steps)
 
 pub loop-done-init : goal.loop-done-init
-loop-done-init g c =
-    let none = sym (with_nothing c.args.memory.now c.args.at) in
-    record {
-      within = omega arith;
-      contents = gives_nothing _ c.args.memory.now c.args.at;
-      put = record { put = []; count = refl; memory = none };
-      tree = looked-nothing _;
-    }
+loop-done-init g c = grind (arith, common_steps)
 
 pub returns-in_err-taken-clause-stopped : goal.returns-in_err-taken-clause-stopped
-returns-in_err-taken-clause-stopped g c =
-    let result : c.from_residual.result ≡ Err c.in_err-taken.field-0.0 = search rules in
-    rw result (prefix_put _ c.args.path.now c.args.memory.now c.loop-done.memory c.args.place c.args.at c.loop-done.done c.args.count c.loop-done.invariant.within c.loop-done.invariant.put c.loop-done.invariant.contents)
+returns-in_err-taken-clause-stopped g c = grind (arith, common_steps)

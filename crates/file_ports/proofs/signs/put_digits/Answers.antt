@@ -1,3 +1,4 @@
+use Rattle.std.proofs.lemmas.Grind.{common_steps}
 use Rattle.std.proofs.Common.{ℕ, ◌≡◌, ◌∙◌, ap, sym, arith}
 use Rattle.std.proofs.lemmas.List.{length-set}
 use Rattle.uxn_memory.specs.Bytes.{with_bytes}
@@ -7,13 +8,7 @@ use Rattle.file_ports.proofs.SignLemmas.{digit_put, digits-none}
 use Rattle.file_ports.proofs.signs.put_digits.Goals as goal
 
 pub loop-left-preserved : goal.loop-left-preserved
-loop-left-preserved c = record {
-  within = omega arith;
-  size = grind (arith, length-set);
-  digits =
-      digit_put c.loop-left.memory c.set.new.self c.args.at c.loop-left.left c.loop-left.rest c.last_digit.result c.set.ensures c.last_digit.ensures (omega arith) c.loop-left-test.true
-      ∙ c.loop-left.invariant.digits;
-}
+loop-left-preserved c = grind (arith, common_steps, digit_put, length-set)
 
 pub returns : goal.returns
 returns c =

@@ -1,5 +1,6 @@
-use Rattle.std.proofs.Common.{◌≡◌, [], true, Err, rules, inl, inr}
-use Rattle.uxn_io_traits.specs.EndedLaws.{looked-ended, tree-first, at-most-looked, at-most-created}
+use Rattle.std.proofs.Common.{arith, ◌≡◌, [], true, Err, rules, inl, inr}
+use Rattle.std.proofs.lemmas.Grind.{common_steps}
+use Rattle.uxn_io_traits.specs.EndedLaws.{looked-ended, tree-first}
 use Rattle.file_ports.proofs.ChangeLemmas.{file_made, begin-quiet, begin-new}
 use Rattle.file_ports.proofs.writing.begin.Goals as goal
 
@@ -35,8 +36,4 @@ pub returns-then-is_writing-clause-refused : goal.returns-then-is_writing-clause
 returns-then-is_writing-clause-refused g c = inl c.in_ok-goes_on.ensures.tree.refusals
 
 pub returns-clause-refused : goal.returns-clause-refused
-returns-clause-refused g c =
-    let looked = g.T.Tree.state c.goes_on.new.tree in
-    let created = g.T.Tree.state c.create.new.self in
-    at-most-looked c.args.path.now (g.T.Tree.state c.args.tree.now) looked created c.in_ok-goes_on.ensures.tree
-    (at-most-created c.args.path.now looked created c.create.result c.create.ensures.refused)
+returns-clause-refused g c = grind (arith, common_steps)

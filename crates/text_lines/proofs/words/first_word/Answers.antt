@@ -1,6 +1,6 @@
-use Rattle.std.proofs.Common.{◌≡◌, ◌<◌, ◌-◌, ℕ, List, take, drop, length, arith, rules, tests, ap, ◌∙◌}
+use Rattle.std.proofs.lemmas.Grind.{common_steps}
+use Rattle.std.proofs.Common.{◌≡◌, ◌<◌, ◌-◌, ℕ, List, take, drop, length, arith, rules, tests}
 use Rattle.std.proofs.lemmas.List.{length-drop, take_all, nil_from_length}
-use Rattle.text_lines.specs.Lines.{words_of}
 use Rattle.text_lines.proofs.Cutting.{after_blanks, no_words, some_word, cut_is}
 use Rattle.text_lines.proofs.words.first_word.Goals as goal
 
@@ -9,10 +9,7 @@ whole : (line : List ℕ) (n : ℕ) → take (length line - n) (drop n line) ≡
 whole line n = take_all _ (drop n line) (omega (arith, length-drop n line))
 
 pub returns-then-is_empty-clause-words : goal.returns-then-is_empty-clause-words
-returns-then-is_empty-clause-words c =
-    let empty = rw (whole c.args.line.now c.prefix.result) at c.is_empty.ensures in
-    let none : length (drop c.prefix.result c.args.line.now) ≡ 0 = search (rules, tests) in
-    after_blanks c.prefix.result c.args.line.now c.prefix.ensures.within c.prefix.ensures.each ∙ ap words_of (nil_from_length _ none) ∙ no_words
+returns-then-is_empty-clause-words c = grind (arith, common_steps, after_blanks, nil_from_length, no_words, whole)
 
 pub returns-clause-words : goal.returns-clause-words
 returns-clause-words c =

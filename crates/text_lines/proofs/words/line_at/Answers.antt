@@ -1,4 +1,4 @@
-use Rattle.std.proofs.Common.{◌≡◌, ◌-◌, ℕ, List, take, drop, length, arith}
+use Rattle.std.proofs.Common.{rules, tests, ◌≡◌, ◌-◌, ℕ, List, take, drop, length, arith}
 use Rattle.std.proofs.lemmas.List.{length-drop, length-take-le, take_all}
 use Rattle.text_lines.proofs.Cutting.{line_is}
 use Rattle.text_lines.proofs.words.line_at.Goals as goal
@@ -8,9 +8,4 @@ whole : (text : List ℕ) (n : ℕ) → take (length text - n) (drop n text) ≡
 whole text n = take_all _ (drop n text) (omega (arith, length-drop n text))
 
 pub returns-clause-lines : goal.returns-clause-lines
-returns-clause-lines c =
-    let text = c.args.text.now in
-    let left = whole text c.args.start in
-    let inside = rw left at c.line_len.ensures in
-    let size = length-take-le c.line_len.result (drop c.args.start text) inside.within in
-    rw (left, size) (line_is text c.args.start c.line_len.result c.requires inside.within inside.each inside.last)
+returns-clause-lines c = search (rules, tests, length-take-le, line_is, whole)

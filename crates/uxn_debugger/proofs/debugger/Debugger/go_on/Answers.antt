@@ -1,4 +1,4 @@
-use Rattle.std.proofs.Common.{◌+◌, length, ap, sym, ◌∙◌, arith}
+use Rattle.std.proofs.Common.{sym, ◌∙◌, arith, rules}
 use Rattle.std.proofs.lemmas.List.{length-drop}
 use Rattle.uxn_debugger.specs.Printing.{view}
 use Rattle.uxn_debugger.proofs.Obeying.{next_is, none_left, was_obeyed, went, finished}
@@ -12,11 +12,7 @@ returns-in-Some-goal_of-clause-ok g c page is_page =
     (sym c.in-Some-goal_of.ensures) (c.loop-command.invariant.rest page is_page)
 
 pub loop-command-smaller : goal.loop-command-smaller
-loop-command-smaller g c =
-    let found = c.in-Some.ensures.lookup in
-    let items = c.loop-command.self.commands.items in
-    let within = found.3.0 in
-    omega (arith, ap length c.obey.ensures.left, within, ap length c.deref.ensures.value, length-drop c.loop-command.self.next items, length-drop (c.loop-command.self.next + 1) items)
+loop-command-smaller = search (arith, rules, length-drop)
 
 pub loop-command-preserved : goal.loop-command-preserved
 loop-command-preserved g c =

@@ -1,4 +1,5 @@
-use Rattle.std.proofs.Common.{◌≡◌, ◌-◌, ap, ◌∙◌, arith}
+use Rattle.std.proofs.lemmas.Grind.{common_steps}
+use Rattle.std.proofs.Common.{◌-◌, ap, ◌∙◌, arith}
 use Rattle.uxn_io_traits.specs.ByteList.{ByteList}
 use Rattle.uxn_io.proofs.InMemory.SoundLemmas.{copied}
 use Rattle.uxn_io.proofs.memory.places.copies.Goals as goal
@@ -16,18 +17,7 @@ loop-i-preserved c = record {
 }
 
 pub put-requires : goal.put-requires
-put-requires c = record {
-  ordered = c.loop-i.invariant.ordered;
-  room = omega (arith, c.loop-i-test.true, c.loop-i.invariant.few, c.loop-i.invariant.total, c.requires.total);
-}
+put-requires c = grind (arith, common_steps)
 
 pub returns : goal.returns
-returns c = record {
-  nodes =
-      let first : c.loop-i.i ≡ 0 = omega (arith, c.loop-i-test.false) in
-      rw first at c.loop-i.invariant.nodes;
-  ordered = c.loop-i.invariant.ordered;
-  used = c.loop-i.invariant.places;
-  few = omega (arith, c.loop-i.invariant.few);
-  total = c.loop-i.invariant.total;
-}
+returns c = grind (arith, common_steps)

@@ -1,18 +1,12 @@
-use Rattle.uxn_undo.proofs.Common.{◌-◌, length, sym, inl, inr, arith, vec_len, vec_capacity}
+use Rattle.std.proofs.Common.{rules}
+use Rattle.uxn_undo.proofs.Common.{◌-◌, length, sym, arith, vec_len, vec_capacity}
 use Rattle.std.proofs.lemmas.Option.{slice_get_cases}
 use Rattle.uxn_undo.proofs.Joined.{length-held, forgotten, forgotten-rings}
 use Rattle.uxn_undo.proofs.Slots.{fewer_slots}
 use Rattle.uxn_undo.proofs.undo.Undo.forget_oldest.Goals as goal
 
 pub returns-in_default : goal.returns-in_default
-returns-in_default c =
-    let records = c.self.inside.records.items in
-    let held = length-held c.self.inside.rows.items records c.self.inside.bytes.items c.args.self.now c.self.view_is in
-    let none = c.in_default.ensures in
-    elim (slice_get_cases records (length records - 1)).1 [
-      | inl there ↦ let last = there.2 in cc
-      | inr past ↦ absurd (omega (arith, past.0, held, c.requires))
-    ]
+returns-in_default = search (arith, rules, length-held, slice_get_cases)
 
 pub overflow_sub-bytes : goal.overflow_sub-bytes
 overflow_sub-bytes c =

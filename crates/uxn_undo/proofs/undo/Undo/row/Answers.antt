@@ -1,3 +1,4 @@
+use Rattle.std.proofs.Common.{rules}
 use Rattle.uxn_undo.proofs.Common.{◌≡◌, ◌-◌, ◌<◌, List, length, Some, refl, sym, ap, ◌∙◌, arith, slice_index_or, vec_len, Row, row_of}
 use Rattle.uxn_undo.proofs.Common.{row_in, no_row}
 use Rattle.std.proofs.lemmas.List.{get_or_default}
@@ -9,9 +10,7 @@ pub nth-requires : goal.nth-requires
 nth-requires c = omega (arith, length-held c.self.inside.rows.items c.self.inside.records.items c.self.inside.bytes.items c.args.self.now c.self.view_is)
 
 pub bounds-rows-from : goal.bounds-rows-from
-bounds-rows-from c =
-    rw (c.from.ensures, c.as_slice-rows.ensures.len) (slot_within (vec_len c.self.inside.rows) c.self.inside.next c.self.inside.records.items
-    (c.args.back - 1) c.nth.result.now c.self.invariant.1.order c.nth.ensures)
+bounds-rows-from = search (arith, rules, slot_within)
 
 pub returns : goal.returns
 returns c =

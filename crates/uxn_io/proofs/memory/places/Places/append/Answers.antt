@@ -1,3 +1,4 @@
+use Rattle.std.proofs.lemmas.Grind.{common_steps}
 use Rattle.std.proofs.Common.{◌≡◌, ℕ, ◌-◌, ◌≤◌, take, List, [], Ok, IsSome, is_some, false, length, vec_len, vec_capacity, ap, sym, ◌∙◌, arith}
 use Rattle.std.proofs.lemmas.List.{length-take-le}
 use Rattle.uxn_io.specs.declared.memory.trees.Node.{Node as StoredNode}
@@ -34,7 +35,7 @@ overflow_sub-self-inside c =
     omega (arith, long, within_room c.self.inside.used.items c.self.inside.free.items c.self.inside.room (vec_capacity c.self.inside.used) (vec_capacity c.self.inside.free) c.args.path.now c.self.invariant)
 
 pub append_at-requires-clause-within : goal.append_at-requires-clause-within
-append_at-requires-clause-within c = omega (arith, within_there c.args.path.now c.self.inside.used.items c.in-Ok.at (stands (goal.at.append_at-requires-clause-within c).In-Ok), c.self.inside.used.ok.0)
+append_at-requires-clause-within c = grind (arith, common_steps, stands, within_there)
 
 pub append_at-requires-clause-room : goal.append_at-requires-clause-room
 append_at-requires-clause-room c = λ d.
@@ -55,6 +56,4 @@ returns-in-Ok-clause-after c =
     ∙ ap (λ (p : Places). appended p c.args.path.now c.args.piece.now) c.self.view_is
 
 pub returns-in_default-clause-after : goal.returns-in_default-clause-after
-returns-in_default-clause-after c =
-    let place = c.in_default.ensures.place ∙ ap (place_of c.args.path.now) c.deref.ensures.value in
-    absurd (file_nowhere c.self.inside.used.items c.args.path.now c.in_default.field-0 c.self.invariant.ordered place (ap (λ (p : Places). is_some (file_at p.nodes c.args.path.now)) c.self.view_is ∙ c.requires))
+returns-in_default-clause-after c = grind (arith, common_steps, file_nowhere, is_some)

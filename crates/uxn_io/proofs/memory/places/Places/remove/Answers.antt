@@ -1,3 +1,4 @@
+use Rattle.std.proofs.lemmas.Grind.{common_steps}
 use Rattle.std.proofs.Common.{◌≡◌, ℕ, true, List, [], ◌∷◌, ◌++◌, Ok, is_some, length, vec_len, refl, ap, sym, subst, ◌∙◌, arith, length-append}
 use Rattle.std.proofs.lemmas.List.Elements.{All-push, All-get_or}
 use Rattle.uxn_io.specs.declared.memory.trees.Node.{Node as StoredNode}
@@ -8,7 +9,7 @@ use Rattle.uxn_io.specs.InMemory.Trees.{removed}
 use Rattle.uxn_io.proofs.InMemory.PlaceLemmas.{within_there}
 use Rattle.uxn_io.proofs.InMemory.ChangeLemmas.{observed, take_held, take_removed, file_nowhere}
 use Rattle.uxn_io.proofs.memory.places.Places.remove.Goals as goal
-use Rattle.uxn_io.proofs.memory.places.Places.remove.Goals.{In-Ok, After-push_free}
+use Rattle.uxn_io.proofs.memory.places.Places.remove.Goals.{In-Ok}
 
 stands : (c : In-Ok) → Ok c.in-Ok.at ≡ place_of c.args.path.now c.self.inside.used.items
 stands c = c.in-Ok.ensures.place ∙ ap (place_of c.args.path.now) c.deref.ensures.value
@@ -17,10 +18,10 @@ file_there : (c : In-Ok) → is_some (file_at (nodes_of c.self.inside.used.items
 file_there c = ap (λ (p : Places). is_some (file_at p.nodes c.args.path.now)) c.self.view_is ∙ sym c.is_file.ensures ∙ c.if-not-is_file.false
 
 pub remove-node-requires : goal.remove-node-requires
-remove-node-requires c = omega (arith, within_there c.args.path.now c.self.inside.used.items c.in-Ok.at (stands (goal.at.remove-node-requires c).In-Ok), c.self.inside.used.ok.0)
+remove-node-requires c = grind (arith, common_steps, stands, within_there)
 
 pub push_free-requires : goal.push_free-requires
-push_free-requires c = omega (arith, within_there c.args.path.now c.self.inside.used.items c.in-Ok.at (stands (goal.at.push_free-requires c).In-Ok), c.self.invariant.spares_fit, c.self.inside.free.ok.0)
+push_free-requires c = grind (arith, common_steps)
 
 pub invariant_of-self : goal.invariant_of-self
 invariant_of-self c =
@@ -44,6 +45,4 @@ returns-in-Ok-clause-after c =
     ∙ ap (λ (p : Places). removed p c.args.path.now) c.self.view_is
 
 pub returns-in_default-clause-after : goal.returns-in_default-clause-after
-returns-in_default-clause-after c =
-    let place = c.in_default.ensures.place ∙ ap (place_of c.args.path.now) c.deref.ensures.value in
-    absurd (file_nowhere c.self.inside.used.items c.args.path.now c.in_default.field-0 c.self.invariant.ordered place (ap (λ (p : Places). is_some (file_at p.nodes c.args.path.now)) c.self.view_is ∙ sym c.is_file.ensures ∙ c.if-not-is_file.false))
+returns-in_default-clause-after c = grind (arith, common_steps, file_nowhere, is_some)

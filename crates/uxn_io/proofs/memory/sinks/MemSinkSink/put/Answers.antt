@@ -1,17 +1,12 @@
-use Rattle.std.proofs.Common.{◌≡◌, ℕ, Some, List, take, length, sym, ap, refl, arith, ◌∙◌, length-take-le}
+use Rattle.std.proofs.Common.{◌≡◌, ℕ, Some, List, take, length, ap, refl, arith, length-take-le}
 use Rattle.std.proofs.lemmas.Bool.{false≢true}
 use Rattle.std.proofs.lemmas.Grind.{common_steps}
 use Rattle.uxn_io_traits.specs.FaultLaws.{counted-same, counted-one}
-use Rattle.uxn_io.specs.InMemory.Sinks.{SinkInMemory}
 use Rattle.uxn_io.proofs.InMemory.GuaranteedLemmas.{sink_is_guaranteed, sink_stays_guaranteed}
 use Rattle.uxn_io.proofs.memory.sinks.MemSinkSink.put.Goals as goal
 
 pub returns-then-fails-clause-failed : goal.returns-then-fails-clause-failed
-returns-then-fails-clause-failed c = record {
-  contents = ap (λ (s : SinkInMemory). Some s.taken) c.self.view_is;
-  counted = rw (← c.self.view_is) (counted-one _ _ (omega arith) c.saturating_add-self-inside-then-fails.ensures refl);
-  blamed = λ less. sink_is_guaranteed c.args.self.now c.args.piece.now (sym c.fails_at-fails.ensures ∙ c.if-fails.true) less;
-}
+returns-then-fails-clause-failed c = grind (arith, common_steps, counted-one, sink_is_guaranteed)
 
 pub returns-clause-taken : goal.returns-clause-taken
 returns-clause-taken c =
