@@ -88,7 +88,7 @@ pub use Rattle.uxn_cli.specs.Outcome.{line_exit, Outcome, outcome_of, reporting,
 unfoldable pub use Rattle.uxn_cli.specs.Outcome.{running}
 pub use Rattle.uxn_cli.specs.Outside.{DoesWork, HostState, host_state, observed_outside}
 pub use Rattle.uxn_cli.specs.Prepared.{IsPlanned, AreNew, IsReadyRun, prepared_debugging, prepared_job, prepared_plan, printed_plan}
-pub use Rattle.uxn_cli.specs.Refused.{HasNoRoot, AtMostOne, CountsRefusals, PassesNoneOver}
+pub use Rattle.uxn_cli.specs.Refused.{HasNoRoot, AtMostOne, CountsRefusals, ReportsRefused}
 pub use Rattle.uxn_cli.specs.Verdict.{Work, Run, Write, Print, RunLine, accepted_summary, Plan, plan_of, accepted_line, inquiry_of, run_plan, planned}
 pub use Rattle.uxn_cli.specs.Verdict.{line_job}
 unfoldable pub use Rattle.uxn_cli.specs.Verdict.{run_plan_of, line_plan_of, work_of}

@@ -1,6 +1,6 @@
 -- Files that were refused, step by step.
 use Rattle.uxn_cli.proofs.Common.{◌≡◌, false, inl, inr, List, ℕ, None, Result, Ok, Err, TreeLooked, TreeState, SinkState, Stop, Task, Refusal, Halt}
-use Rattle.uxn_cli.proofs.Common.{Refused, Stopped, as_step, refusal_line, Puts, IsRefusing, status_of, AtMostOne, CountsRefusals, PassesNoneOver}
+use Rattle.uxn_cli.proofs.Common.{Refused, Stopped, as_step, refusal_line, Puts, IsRefusing, status_of, AtMostOne, CountsRefusals, ReportsRefused}
 use Rattle.uxn_cli.proofs.Common.{HasNoRoot, HostState, arith, common_steps}
 use Rattle.uxn_io_traits.specs.Ended.{Refused as CreateRefused}
 use Rattle.uxn_task_files.specs.Made.{Refuses}
@@ -26,7 +26,7 @@ counts-refuses = grind (arith, common_steps)
 
 -- a program that runs beneath a root is not spoken of, where its call is not refused; without a root it makes no file
 pub counts-run : (requested : Result Task Refusal) (before now : TreeState) (err err_now : SinkState) (status : ℕ) → (IsRefusing status → ⊥)
-    → (HasNoRoot requested → CreateRefused None before now) → PassesNoneOver requested before now err err_now status
+    → (HasNoRoot requested → CreateRefused None before now) → ReportsRefused requested before now err err_now status
 counts-run requested before now err err_now status usual runs (inl none) = inl (runs none)
 counts-run requested before now err err_now status usual runs (inr refusing) = absurd (usual refusing)
 
@@ -42,6 +42,6 @@ counts-line requested before now err refusal err_now (Err stop) counts kept puts
 -- the same of objects by other names
 pub passes-as : {T E : Type 0} (tree : T → TreeState) (sink : E → SinkState) (requested : Result Task Refusal) (before : TreeState) (now same : T)
     (err : SinkState) (err_now err_same : E)
-    (status : ℕ) → now ≡ same → err_now ≡ err_same → PassesNoneOver requested before (tree now) err (sink err_now) status
-    → PassesNoneOver requested before (tree same) err (sink err_same) status
+    (status : ℕ) → now ≡ same → err_now ≡ err_same → ReportsRefused requested before (tree now) err (sink err_now) status
+    → ReportsRefused requested before (tree same) err (sink err_same) status
 passes-as tree sink requested before now same err err_now err_same status a b passes = rw (← a, ← b) passes

@@ -5,7 +5,7 @@ use Rattle.uxn_cli.proofs.Common.{Nobody, TheTree, ASink, Blame, counts, Nodes, 
 use Rattle.uxn_cli.proofs.Common.{Stopped, world, Performs, result_blame, halted_by_tree, tree_verdict, TreeState, SinkState, Outside, outside}
 use Rattle.uxn_cli.proofs.Common.{DoesWork, Puts, IsPlanned, AreFree, Work, Plan, Print, planned, plan_of, inquiry_of, Inquires, Gives, to_out}
 use Rattle.uxn_cli.proofs.Common.{outcome_of, changed_by, Outcome, written_paths, outside-of-out, outside-of-tree, stop_blame, MayStop, HostState}
-use Rattle.uxn_cli.proofs.Common.{host_state, observed_outside, CountsRefusals, OnRefused, PassesNoneOver, early_status, IfSome_then, Vec, Inquiry}
+use Rattle.uxn_cli.proofs.Common.{host_state, observed_outside, CountsRefusals, OnRefused, ReportsRefused, early_status, IfSome_then, Vec, Inquiry}
 use Rattle.uxn_cli.proofs.Common.{Answer, and_then, printed_plan, arith, common_steps}
 use Rattle.uxn_inquiry.specs.declared.halt.Halt.{Halt as InquiryHalt}
 use Rattle.uxn_inquiry.specs.declared.halt.Halt.TheVariants.{Refused as Denied, TreeFault as TreeFailed, NoMemory as OutOfMemory}
@@ -50,13 +50,13 @@ module _ (requested : Result Task Refusal) (before now : HostState) (found : Res
   pub does-all : (code : ℕ) → code ≡ (outcome_of files found).status
       → (observed_outside now).world ≡ changed_by (observed_outside before).world (outcome_of files found).changes
       → Ledger (observed_outside before).faults (observed_outside now).faults Nobody
-      → PassesNoneOver requested before.tree now.tree before.err now.err code → DoesWork requested before now (Ok code)
+      → ReportsRefused requested before.tree now.tree before.err now.err code → DoesWork requested before now (Ok code)
   does-all = grind (arith, common_steps, does-unblamed, given)
 
   -- a prefix of it, and whoever is to blame was not guaranteed to take it
   pub does-prefix : (stop : Stop)
       → (short : CutShort (outcome_of files found).changes (stop_blame stop) (observed_outside before) (observed_outside now))
-      → MayStop files found stop short.cut.rest → PassesNoneOver requested before.tree now.tree before.err now.err (early_status stop)
+      → MayStop files found stop short.cut.rest → ReportsRefused requested before.tree now.tree before.err now.err (early_status stop)
       → DoesWork requested before now (Err (Stopped stop))
   does-prefix stop short may passes = record {
     performs = inl (record { found = found; given = given; has = inl (short.cut, may) });

@@ -23,17 +23,17 @@ AtMostOne before now P = CreateRefused None before now ⊎ ((path : List ℕ) ×
     × CreateRefused (Some path) before now × P path)
 
 -- the call is refused for it, and its line names it; or ended early then
-abbrev pub IsTold : SinkState → SinkState → ℕ → List ℕ → Type 0
-IsTold before now status path =
+abbrev pub IsSaid : SinkState → SinkState → ℕ → List ℕ → Type 0
+IsSaid before now status path =
     ((status ≡ 135) × (now.contents ≡ extended before.contents (refusal_line (NoOutput path)))) ⊎ IsEarly status
 
 -- of a call that has no root, or is refused
-abbrev pub PassesNoneOver : Result Task Refusal → TreeState → TreeState → SinkState → SinkState → ℕ → Type 0
-PassesNoneOver requested before now err err_now status =
-    HasNoRoot requested ⊎ IsRefusing status → AtMostOne before now (IsTold err err_now status)
+abbrev pub ReportsRefused : Result Task Refusal → TreeState → TreeState → SinkState → SinkState → ℕ → Type 0
+ReportsRefused requested before now err err_now status =
+    HasNoRoot requested ⊎ IsRefusing status → AtMostOne before now (IsSaid err err_now status)
 
 -- by how a step ended: a task is refused for the one, whose line is not put yet
 abbrev pub CountsRefusals : Result Task Refusal → TreeState → TreeState → SinkState → SinkState → Result ℕ Halt → Type 0
-CountsRefusals requested before now err err_now (Ok status) = PassesNoneOver requested before now err err_now status
+CountsRefusals requested before now err err_now (Ok status) = ReportsRefused requested before now err err_now status
 CountsRefusals requested before now err err_now (Err (Refused refusal)) = AtMostOne before now (λ path. refusal ≡ NoOutput path)
-CountsRefusals requested before now err err_now (Err (Stopped stop)) = PassesNoneOver requested before now err err_now (early_status stop)
+CountsRefusals requested before now err err_now (Err (Stopped stop)) = ReportsRefused requested before now err err_now (early_status stop)

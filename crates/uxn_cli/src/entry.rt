@@ -7,7 +7,7 @@ ghost use Rattle.uxn_cli.specs.Call.{call, call_on};
 ghost use Rattle.uxn_cli.specs.Clauses.{HasItsOutcome, LeavesTheRest, HasStatuses, EndsEarlyByFaults, IsCutShort};
 ghost use Rattle.uxn_cli.specs.Clauses.{GivesTheSame, FailsNotWhereGuaranteed, ComesOut};
 ghost use Rattle.uxn_cli.specs.Outside.{DoesWork, SameHost, state_of_host};
-ghost use Rattle.uxn_cli.specs.Refused.{PassesNoneOver};
+ghost use Rattle.uxn_cli.specs.Refused.{ReportsRefused};
 
 use super::host::Host;
 use super::work::carry_out;
@@ -65,7 +65,7 @@ fn status_of<T: Tree, O: Sink, E: Sink>(
     words: &[String],
     host: &mut Host<'_, '_, '_, T, O, E>,
 ) -> u8
-    ensures refusals { PassesNoneOver (request (map string_bytes words.now)) (T.state host.old.tree.now) (T.state host.new.tree.now)
+    ensures refusals { ReportsRefused (request (map string_bytes words.now)) (T.state host.old.tree.now) (T.state host.new.tree.now)
         (E.state host.old.err.now) (E.state host.new.err.now) result }
     ensures comes { ComesOut (call_on T.Tree O.Sink E.Sink words.now host.old host.new result) }
     ensures same { SameHost host.old host.new }
@@ -136,7 +136,7 @@ pub fn uxn<T: Tree, O: Sink, E: Sink>(
 
     // No call of `create` that the tree refused is ignored: a tree that is exact counts none, but for the one for which the call
     // is refused, whose path is the one in its line; where a program has a root, its own are not spoken of.
-    ensures refusals { PassesNoneOver (request (map string_bytes words.now))
+    ensures refusals { ReportsRefused (request (map string_bytes words.now))
         (T.state tree.old) (T.state tree.new) (E.state err.old) (E.state err.new) result }
 {
     let mut host = Host { tree, out, err };

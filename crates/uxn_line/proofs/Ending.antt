@@ -95,7 +95,7 @@ turn-way machine line line_now out out_now (Ok moved) turn job begun way =
 turn-way machine line line_now out out_now (Err failed) fails job begun way = way-fails job begun machine line line_now out out_now way fails
 
 -- how much is left of the turns of the first machine that moves: each move makes the work less, where a machine moves no more the first
--- one is next, and a machine that is still is passed over
+-- one is next, and after a machine that is still the one behind it
 abbrev pub turns_left : Line → Bool → ℕ → ℕ
 turns_left line moved index =
     (2 * work_left line + cond moved 1 0) * (length line.members.items + 1) + (length line.members.items - index)
