@@ -1,14 +1,10 @@
 -- The names of what can be wrong with a line of commands, as they are printed (profile).
-use Rattle.std.specs.Prelude.{ℕ, List, codes}
+use denote.Enum.Declared.{tag_of}
+use Rattle.std.specs.Prelude.{ℕ, List, [], map, slice_index_or}
+use Rattle.debug_commands.specs.contracts.command.CommandKind.{the_type}
 use Rattle.debug_commands.specs.declared.command.CommandKind.{CommandKind}
-use Rattle.debug_commands.specs.declared.command.CommandKind.TheVariants.{Unknown, BadValue, NoSuchLabel, Missing, Extra}
-use Rattle.debug_commands.specs.declared.command.CommandKind.TheVariants.{ManyCommands, LongCommands}
+use Rattle.debug_commands.specs.declared.command.TheConstants.{KIND_NAMES}
 
+-- that of the kind's place among the kinds
 abbrev pub command_kind_name : CommandKind → List ℕ
-command_kind_name Unknown = codes "Unknown"
-command_kind_name BadValue = codes "BadValue"
-command_kind_name NoSuchLabel = codes "NoSuchLabel"
-command_kind_name Missing = codes "Missing"
-command_kind_name Extra = codes "Extra"
-command_kind_name ManyCommands = codes "ManyCommands"
-command_kind_name LongCommands = codes "LongCommands"
+command_kind_name kind = slice_index_or (map (λ name. name.now) KIND_NAMES) (tag_of the_type kind) []

@@ -1,14 +1,11 @@
 -- What a line of commands means (profile), a row for each first word.
-use Rattle.std.specs.Prelude.{ℕ, ◌&&◌, nat_lt, if◌then◌else◌, List, [], ◌∷◌, codes, drop, length}
+use Rattle.std.specs.Prelude.{ℕ, ◌&&◌, nat_lt, if◌then◌else◌, List, ◌∷◌, drop, length}
 use Rattle.std.specs.Prelude.{Option, Some, None, option_map, Result, Ok, Err}
 use Rattle.std.specs.Option.{ok_or}
 use Rattle.uxn_limits.specs.declared.limits.TheConstants.{MOST_STEPS, MOST_MOMENTS, MOST_PRINTED}
-use Rattle.text_lines.specs.declared.row.Counts.TheVariants.{Exactly}
-use Rattle.text_lines.specs.declared.row.LineFault.{LineFault}
-use Rattle.text_lines.specs.declared.row.LineFault.TheVariants as line
 use Rattle.text_lines.specs.Numbers.{begins_with, number_within}
 use Rattle.text_lines.specs.Reading.{Line, made}
-use Rattle.text_lines.specs.Rows.{Rows, keyword_of, line_by}
+use Rattle.text_lines.specs.Rows.{fault_named, keyword_of, line_by}
 use Rattle.tal_words.specs.declared.name.Label.{Label}
 use Rattle.tal_words.specs.Digits.{is_short_number, number_of_digits}
 use Rattle.tal_words.specs.Labels.{address_named}
@@ -16,8 +13,9 @@ use Rattle.debug_commands.specs.declared.command.DebugCommand.{DebugCommand}
 use Rattle.debug_commands.specs.declared.command.DebugCommand.TheVariants.{Break, Delete, Run, Step, Back, Stacks, Mem, PortPage, Here}
 use Rattle.debug_commands.specs.declared.command.CommandKind.{CommandKind}
 use Rattle.debug_commands.specs.declared.command.CommandKind.TheVariants.{Unknown, BadValue, NoSuchLabel, Missing, Extra}
-use Rattle.debug_commands.specs.declared.keyword.Keyword.{Keyword}
-use Rattle.debug_commands.specs.declared.keyword.Keyword.TheVariants as word
+use Rattle.debug_commands.specs.declared.line.TheConstants.{ROWS}
+use Rattle.debug_commands.specs.declared.line.Keyword.{Keyword}
+use Rattle.debug_commands.specs.declared.line.Keyword.TheVariants as word
 
 -- a value, or what is wrong with it
 abbrev pub CommandVerdict : Type 0 → Type 0
@@ -35,20 +33,6 @@ abbrev pub memory_command : CommandVerdict ℕ → Option ℕ → CommandVerdict
 memory_command address None = Err BadValue
 memory_command address (Some count) = made (λ at. Mem at count) address
 
--- the first words, with how many values each takes
-unfoldable pub rows : Rows Keyword
-rows =
-    (codes "break", Exactly 1, word.Break)
-    ∷ (codes "delete", Exactly 1, word.Delete)
-    ∷ (codes "run", Exactly 0, word.Run)
-    ∷ (codes "step", Exactly 1, word.Step)
-    ∷ (codes "back", Exactly 1, word.Back)
-    ∷ (codes "where", Exactly 0, word.Where)
-    ∷ (codes "stacks", Exactly 0, word.Stacks)
-    ∷ (codes "mem", Exactly 2, word.Mem)
-    ∷ (codes "ports", Exactly 0, word.Ports)
-    ∷ []
-
 -- the command that the values behind a first word make, as many as it takes
 unfoldable pub command_of : List Label → Keyword → List (List ℕ) → CommandVerdict DebugCommand
 command_of labels word.Break (a ∷ more) = made Break (address_in labels a)
@@ -62,12 +46,7 @@ command_of labels word.Mem (a ∷ n ∷ more) = memory_command (address_in label
 command_of labels word.Ports values = Ok PortPage
 command_of labels _ values = Err BadValue
 
-abbrev pub command_kind_of : LineFault → CommandKind
-command_kind_of line.Unknown = Unknown
-command_kind_of line.Missing = Missing
-command_kind_of line.Extra = Extra
-
 -- the command that the words of a line give, or what is wrong with them; a line without words or with `#` before its
 -- first gives none
 unfoldable pub command_line_of : List Label → List (List ℕ) → Line DebugCommand CommandKind
-command_line_of labels words = line_by command_kind_of (command_of labels) (keyword_of rows words)
+command_line_of labels words = line_by (fault_named Unknown Missing Extra) (command_of labels) (keyword_of ROWS words)

@@ -48,6 +48,17 @@ pub enum CommandKind {
     LongCommands,
 }
 
+/// The names of the kinds, in their order.
+pub const KIND_NAMES: [&str; 7] = [
+    "Unknown",
+    "BadValue",
+    "NoSuchLabel",
+    "Missing",
+    "Extra",
+    "ManyCommands",
+    "LongCommands",
+];
+
 impl CommandKind {
     ghost use Rattle.debug_commands.specs.Kinds.{command_kind_name};
 
@@ -55,22 +66,15 @@ impl CommandKind {
     pub fn name(self) -> &'static str
         ensures { result.now ≡ command_kind_name self }
     {
-        match self {
-            CommandKind::Unknown => "Unknown",
-            CommandKind::BadValue => "BadValue",
-            CommandKind::NoSuchLabel => "NoSuchLabel",
-            CommandKind::Missing => "Missing",
-            CommandKind::Extra => "Extra",
-            CommandKind::ManyCommands => "ManyCommands",
-            CommandKind::LongCommands => "LongCommands",
-        }
+        KIND_NAMES[self as usize]
     }
 }
 
 impl From<LineFault> for CommandKind {
-    ghost use Rattle.debug_commands.specs.Lines.{command_kind_of};
+    ghost use Rattle.text_lines.specs.Rows.{fault_named};
+    ghost use Rattle.debug_commands.specs.declared.command.CommandKind.TheVariants.{Unknown, Missing, Extra};
 
-    ghost from_gives = { λ fault kind. kind ≡ command_kind_of fault };
+    ghost from_gives = { λ fault kind. kind ≡ fault_named Unknown Missing Extra fault };
 
     fn from(fault: LineFault) -> CommandKind {
         match fault {

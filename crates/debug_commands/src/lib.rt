@@ -2,7 +2,6 @@
 #![tactic(auto)]
 
 mod command;
-mod keyword;
 mod line;
 mod reading;
 

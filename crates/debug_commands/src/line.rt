@@ -1,15 +1,52 @@
-//! What a line of commands means.
+//! The first words of lines, and what a line means.
 
 ghost use Rattle.std.specs.Prelude.{◌≡◌, ◌<◌, if◌then◌else◌, IfSome, Some, None};
 ghost use Rattle.text_lines.specs.Lines.{words_of};
+ghost use Rattle.text_lines.specs.Rows.{rows_in};
 ghost use Rattle.tal_words.specs.Digits.{is_digit, digit_value, is_short_number, number_of_digits};
+ghost use Rattle.debug_commands.specs.declared.line.TheConstants.{ROWS};
 ghost use Rattle.debug_commands.specs.Lines.{address_in, command_line_of, command_of};
 
 use crate::command::{CommandKind, DebugCommand};
-use crate::keyword::{Keyword, rows};
 use tal_symbols::{Label, address_of};
-use text_lines::{begins_with, first_word, keyword_of, number_within};
+use text_lines::{Counts, Row, begins_with, first_word, keyword_of, number_within};
 use uxn_limits::limits;
+
+/// The first word of a line that gives a command.
+#[derive(Clone, Copy, PartialEq, Eq)]
+pub(crate) enum Keyword {
+    Break,
+    Delete,
+    Run,
+    Step,
+    Back,
+    Where,
+    Stacks,
+    Mem,
+    Ports,
+}
+
+/// The lines of commands.
+pub(crate) const ROWS: [Row<Keyword>; 9] = [
+    ("break", Counts::Exactly(1), Keyword::Break),
+    ("delete", Counts::Exactly(1), Keyword::Delete),
+    ("run", Counts::Exactly(0), Keyword::Run),
+    ("step", Counts::Exactly(1), Keyword::Step),
+    ("back", Counts::Exactly(1), Keyword::Back),
+    ("where", Counts::Exactly(0), Keyword::Where),
+    ("stacks", Counts::Exactly(0), Keyword::Stacks),
+    ("mem", Counts::Exactly(2), Keyword::Mem),
+    ("ports", Counts::Exactly(0), Keyword::Ports),
+];
+
+static TABLE: [Row<Keyword>; 9] = ROWS;
+
+// The lines of commands.
+pub(crate) fn rows() -> &'static [Row<Keyword>]
+    ensures { rows_in result.now ≡ ROWS }
+{
+    TABLE.as_slice()
+}
 
 // The command that a line gives, if it gives one, or what is wrong with it by itself.
 #[tactic(auto, unfolding(crate::specs::Lines::command_line_of))]

@@ -20,7 +20,7 @@ use Rattle.clap.specs.declared.error.kind.ErrorKind.TheVariants as kind
 use Rattle.clap.proofs.FaultLemmas.{leaf_fault}
 use Rattle.clap.proofs.WalkLemmas.{list_any-map}
 use Rattle.option_table.specs.Parsing.{parser_for}
-use Rattle.option_table.specs.Words.{Choice, GivenArgument, choice_named, choice_step, operand, follow, given, is_given, is_legal, is_plain, is_whole}
+use Rattle.option_table.specs.Words.{Choice, GivenArgument, choice_named, choice_step, operand, follow, given, is_given, is_legal, is_plain}
 use Rattle.option_table.specs.Words.{arguments_of, each_once, lacks_some, name_before, option_text, value_behind, values_in}
 use Rattle.option_table.proofs.ArgumentLemmas.{Fits, IsKnown, by_long, choice_rule, conflict, defaults_pass, filled_rules, known, operand_rule}
 use Rattle.option_table.proofs.ArgumentLemmas.{or_none, row, rows_given, rows_known, ruled, rules_for, same-sym, contents, use_faults, use_rows}
@@ -77,7 +77,7 @@ module _ (choices : List Choice) where
   rows_when whole items = cond whole (Some (with_defaults choices (map row items))) None
 
   abbrev pub wanted : Option (List GivenArgument) → Option (List Row)
-  wanted items = option_and_then (λ all. rows_when (is_whole choices all) all) items
+  wanted items = option_and_then (λ all. rows_when (each_once all && not (lacks_some choices all)) all) items
 
   unwanted : (items : List GivenArgument) (more : Option (List GivenArgument)) → each_once items ≡ false → wanted (before items more) ≡ None
   unwanted items more e = grind (arith, common_steps, once-prefix)

@@ -1,11 +1,20 @@
 -- The command of `clap` that reads words by a table of options, and what its matches say.
 use Rattle.std.specs.Prelude.{ℕ, Bool, true, List, [], ◌∷◌, Option, Some, None, map, option_and_then, if◌then◌else◌}
+use Rattle.std.specs.Borrow.{Bor}
 use Rattle.clap.specs.Words.{App, Rule, first_value, found_of, matched_of, new_app, new_rule}
 use Rattle.clap.specs.declared.builder.action.ArgAction.TheVariants.{Set, SetTrue}
 use Rattle.clap.specs.declared.parser.matches.ValueSource.{ValueSource}
 use Rattle.clap.specs.declared.parser.matches.ValueSource.TheVariants.{DefaultValue, CommandLine}
 use Rattle.option_table.specs.declared.reading.Found.{Found}
-use Rattle.option_table.specs.Words.{Choice, operand}
+use Rattle.option_table.specs.declared.choice.ChoiceKind.{ChoiceKind}
+use Rattle.option_table.specs.Words.{Choice, choice_of, operand}
+
+-- the options of the rows that the code has
+abbrev pub choice_in : Bor (List ℕ) × ChoiceKind → Choice
+choice_in row = choice_of row.0.now row.1
+
+abbrev pub table_choices : List (Bor (List ℕ) × ChoiceKind) → List Choice
+table_choices rows = map choice_in rows
 
 -- the arguments: the operand, and the options
 abbrev pub argument : List ℕ → Option (List ℕ) → Bool → Bool → Rule

@@ -5,8 +5,8 @@ use Rattle.std.specs.Prelude.{if◌then◌else◌}
 use Rattle.std.specs.List.{list_all, list_any, before_first, after_first}
 use Rattle.std.specs.Option.{option_map_or}
 use Rattle.std.specs.Str.{bytes_eq}
-use Rattle.option_table.specs.declared.choice.Choice.{Choice as Row}
-use Rattle.option_table.specs.declared.choice.Choice.TheVariants.{Switch, Optional, Required}
+use Rattle.option_table.specs.declared.choice.ChoiceKind.{ChoiceKind}
+use Rattle.option_table.specs.declared.choice.ChoiceKind.TheVariants.{Switch, Optional, Required}
 
 -- ---- tables
 
@@ -16,23 +16,14 @@ pub record Choice : Type 0 where
   pub has_value : Bool
   pub is_required : Bool
 
-abbrev pub switch : List ℕ → Choice
-switch name = record { name = name; has_value = false; is_required = false }
+abbrev pub choice_of : List ℕ → ChoiceKind → Choice
+choice_of name Switch = record { name = name; has_value = false; is_required = false }
+choice_of name Optional = record { name = name; has_value = true; is_required = false }
+choice_of name Required = record { name = name; has_value = true; is_required = true }
 
-abbrev pub optional : List ℕ → Choice
-optional name = record { name = name; has_value = true; is_required = false }
-
-abbrev pub required : List ℕ → Choice
-required name = record { name = name; has_value = true; is_required = true }
-
--- the options that the rows of the code are
-abbrev pub choice_in : Row → Choice
-choice_in (Switch name) = switch name.now
-choice_in (Optional name) = optional name.now
-choice_in (Required name) = required name.now
-
-abbrev pub choices_in : List Row → List Choice
-choices_in rows = map choice_in rows
+-- the options of a table
+abbrev pub choices_in : List (record { now : List ℕ } × ChoiceKind) → List Choice
+choices_in rows = map (λ row. choice_of row.0.now row.1) rows
 
 abbrev pub choice_named : List Choice → List ℕ → Option Choice
 choice_named choices name = find (λ choice. bytes_eq choice.name name) choices
@@ -88,26 +79,18 @@ pub data WalkStep : Type 0 where
   refuses : WalkStep
 
 -- `--name` and `--name=value`, of an option that has a value, and of a switch
-abbrev pub valued_step : List ℕ → Option (List ℕ) → WalkStep
-valued_step name None = awaits name
-valued_step name (Some value) = gives (given name value)
-
-abbrev pub switch_step : List ℕ → Option (List ℕ) → WalkStep
-switch_step name None = gives (given name (codes "true"))
-switch_step name (Some value) = refuses
-
 abbrev pub choice_step : Option Choice → Option (List ℕ) → WalkStep
 choice_step None value = refuses
-choice_step (Some choice) value = if choice.has_value then valued_step choice.name value else switch_step choice.name value
+choice_step (Some choice) None = if choice.has_value then awaits choice.name else gives (given choice.name (codes "true"))
+choice_step (Some choice) (Some value) = if choice.has_value then gives (given choice.name value) else refuses
 
-abbrev pub option_step : List Choice → Option (List ℕ) → WalkStep
-option_step choices None = refuses
-option_step choices (Some text) = choice_step (choice_named choices (name_before text)) (value_behind text)
+abbrev pub option_step : List Choice → List ℕ → WalkStep
+option_step choices text = choice_step (choice_named choices (name_before text)) (value_behind text)
 
 -- a word, where an option may await it as its value
 abbrev pub word_step : List Choice → Option (List ℕ) → List ℕ → WalkStep
 word_step choices (Some name) word = if is_plain word then gives (given name word) else refuses
-word_step choices None word = if is_plain word then gives (given operand word) else option_step choices (option_text word)
+word_step choices None word = if is_plain word then gives (given operand word) else option_map_or (option_step choices) (option_text word) refuses
 
 abbrev pub follow : WalkStep → (Option (List ℕ) → Option (List GivenArgument)) → Option (List GivenArgument)
 follow (gives item) next = option_map (λ items. item ∷ items) (next None)
@@ -140,13 +123,9 @@ abbrev pub lacks_some : List Choice → List GivenArgument → Bool
 lacks_some choices items =
     not (is_given operand items) || list_any (λ choice. choice.is_required && not (is_given choice.name items)) choices
 
--- nothing that may not be missing is missing, and nothing is given twice
-abbrev pub is_whole : List Choice → List GivenArgument → Bool
-is_whole choices items = each_once items && not (lacks_some choices items)
-
--- the value of each name, where a line is whole
+-- the value of each name, where a line is whole: nothing is given twice, and nothing that may not be missing is missing
 abbrev pub values_in : List Choice → List GivenArgument → Option (List ℕ → Option (List ℕ))
-values_in choices items = if is_whole choices items then Some (λ name. argument_value name items) else None
+values_in choices items = if each_once items && not (lacks_some choices items) then Some (λ name. argument_value name items) else None
 
 -- the value that a line gives each name: all its words are legal, they give items, and these are whole
 unfoldable pub values_over : List Choice → List (List ℕ) → Option (List ℕ → Option (List ℕ))

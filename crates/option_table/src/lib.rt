@@ -7,5 +7,5 @@ mod choice;
 mod reading;
 mod words;
 
-pub use choice::Choice;
+pub use choice::{Choice, ChoiceKind};
 pub use reading::{Found, read};

@@ -1,7 +1,7 @@
 //! What a line of words gives over a table.
 ghost use Rattle.std.specs.Prelude.{◌≡◌, IfOk, option_map, is_some, map, string_bytes};
-ghost use Rattle.option_table.specs.Words.{choices_in, operand, values_over};
-ghost use Rattle.option_table.specs.Parsing.{found_value};
+ghost use Rattle.option_table.specs.Words.{operand, values_over};
+ghost use Rattle.option_table.specs.Parsing.{found_value, table_choices};
 
 use crate::choice::{Choice, parser};
 use crate::words::are_legal;
@@ -51,7 +51,7 @@ pub fn read<'a>(
     table: &[Choice],
     words: &'a [String],
 ) -> Result<Option<Found<'a>>, AllocError>
-    ensures { IfOk result (λ read. option_map found_value read ≡ values_over (choices_in table.now) (map string_bytes words.now)) }
+    ensures { IfOk result (λ read. option_map found_value read ≡ values_over (table_choices table.now) (map string_bytes words.now)) }
 {
     if !are_legal(words) {
         return Ok(None);

@@ -18,7 +18,8 @@ use Rattle.play_script.specs.Limits.{AreValues, IsBit, IsValue}
 use Rattle.text_lines.specs.Numbers.{is_digit, is_number, number_within, integer_within, byte_of, begins_with}
 use Rattle.text_lines.proofs.Numerals.{own}
 use Rattle.play_script.specs.PlainText.{text_word, name_in, value_word}
-use Rattle.play_script.specs.Values.{text_of_values, Buttons, bit_in, buttons, mouse_buttons}
+use Rattle.play_script.specs.Values.{text_of_values, Buttons, bit_in}
+use Rattle.play_script.specs.declared.values.TheConstants.{BUTTONS, MOUSE_BUTTONS}
 use borrow.Author.Differences.{le_out, neg_is}
 
 -- a word has bytes, and none that parts words or lines
@@ -123,11 +124,11 @@ byte_back byte small = rw (decode_sized-encode_lower (byte ∷ []) 1 refl (are_b
 abbrev pub IsScriptRead : Buttons → ℕ → Type 0
 IsScriptRead table mask = (bit_in table (name_in table mask) ≡ Some mask) × (is_plain (name_in table mask) ≡ true)
 
-pub button_back : (mask : ℕ) → IsBit mask → IsScriptRead buttons mask
+pub button_back : (mask : ℕ) → IsBit mask → IsScriptRead BUTTONS mask
 unfolding bit_in name_in
 button_back = grind (arith, common_steps)
 
-pub mouse_button_back : (mask : ℕ) → IsBit mask → IsScriptRead mouse_buttons mask
+pub mouse_button_back : (mask : ℕ) → IsBit mask → IsScriptRead MOUSE_BUTTONS mask
 unfolding bit_in name_in
 mouse_button_back = grind (arith, common_steps)
 

@@ -30,10 +30,10 @@ use Rattle.play_script.specs.PlainText.{text_word, value_word, plain_event, even
 use Rattle.play_script.specs.PlainText.{line_text, plain_text}
 use Rattle.play_script.specs.Rows.{Meaning, version, clock, arguments, event, rows_of, device_of, events_of_line, script_meaning_of, version_of}
 use Rattle.play_script.specs.Rows.{clock_of_values, keys_of, expect_of, buttons_of, mouse_buttons_of, mouse_of, scroll_of, script_line_of}
-use Rattle.play_script.specs.Scripts.{ScriptView, script_with, arguments_of, events_of, events_in, script_fault, script_from, script_of, version_at}
+use Rattle.play_script.specs.Scripts.{ScriptView, script_with, arguments_in, events_in, script_fault, script_from, script_of, version_at}
 use Rattle.play_script.specs.Scripts.{version_in}
 use Rattle.play_script.specs.Values.{texts_of_values, one_or}
-use Rattle.text_lines.specs.Rows.{keyword_of, keyword_row}
+use Rattle.text_lines.specs.Rows.{keyword_of, row_named}
 use Rattle.play_script.proofs.PrintedWords.{is_plain, weaker, number_back, integer_back, pairs_back, text_back, plain_text_word, one_byte, byte_back}
 use Rattle.play_script.proofs.PrintedWords.{button_back, mouse_button_back, plain_values}
 use Rattle.play_script.proofs.Stepping.{script_by, short_script}
@@ -106,7 +106,7 @@ abbrev ReadsScript : Version → List (List ℕ) → Meaning → Type 0
 ReadsScript number words m = script_line_of number words ≡ Ok (Some m)
 
 clock_line : (time : Clock) → IsTime time → ReadsScript First (clock_words time) (clock time)
-unfolding script_line_of keyword_of rows_of keyword_row script_meaning_of clock_of_values value_word
+unfolding script_line_of keyword_of rows_of row_named script_meaning_of clock_of_values value_word
 clock_line time is =
     rw (with_seconds time (number_within 0 LAST_SECOND (signed_decimal time.seconds)) (integer_within LAST_OFFSET LAST_OFFSET (signed_decimal time.offset)) (seconds_back time.seconds is.seconds_from is.seconds_to)
     (integer_back LAST_OFFSET LAST_OFFSET time.offset (omega arith) (omega arith) is.offset_from is.offset_to)) refl
@@ -121,7 +121,7 @@ texts_back (text ∷ texts) small =
     rw (text_back text (All-head (All (λ byte. byte < 256)) text texts small), texts_back texts (All-tail (All (λ byte. byte < 256)) text texts small)) refl
 
 args_line : (text : List ℕ) (texts : List (List ℕ)) → AreBytes (text ∷ texts) → ReadsScript First (codes "args" ∷ map text_word (text ∷ texts)) (arguments (text ∷ texts))
-unfolding script_line_of keyword_of rows_of keyword_row script_meaning_of
+unfolding script_line_of keyword_of rows_of row_named script_meaning_of
 args_line text texts small =
     rw (not_lt (length (map text_word (text ∷ texts))) 1 (omega arith), text_back text (All-head (All (λ byte. byte < 256)) text texts small), texts_back texts (All-tail (All (λ byte. byte < 256)) text texts small)) refl
 
@@ -158,7 +158,7 @@ old : (number : Version) (e : Event) → ReadsEvent First e → ReadsEvent numbe
 old number e is = in_version number (event_words e) (event e) is
 
 event_line : (number : Version) (e : Event) → IsEvent number e → ReadsEvent number e
-unfolding script_line_of keyword_of rows_of keyword_row script_meaning_of events_of_line device_of keys_of expect_of buttons_of mouse_buttons_of mouse_of scroll_of value_word one_or
+unfolding script_line_of keyword_of rows_of row_named script_meaning_of events_of_line device_of keys_of expect_of buttons_of mouse_buttons_of mouse_of scroll_of value_word one_or
 event_line number (Input byte) is = old number (Input byte) (rw (one_text byte is.within.0) refl)
 event_line number EndInput is = old number EndInput refl
 event_line number Frame is = old number Frame refl
@@ -189,13 +189,13 @@ plain_words number e is = and_from _ _ (plain_name e) (plain_values (plain_event
 abbrev ok_event : Event → Line Meaning ScriptKind
 ok_event e = Ok (Some (event e))
 
-given_events : (number : Version) (n : ℕ) (before : List Meaning) (more : List Event) → length (events_of before) + length more ≤ MOST_EVENTS
+given_events : (number : Version) (n : ℕ) (before : List Meaning) (more : List Event) → length (flat_map events_in before) + length more ≤ MOST_EVENTS
     → given (script_fault number) n before (map ok_event more ++ Ok None ∷ []) ≡ Ok (before ++ map event more)
 given_events number n before [] few = ap Ok (sym (append-nil before))
 given_events number n before (e ∷ more) few =
-    let fits = not_lt MOST_EVENTS (length (events_of before) + 1) (omega (arith, few)) in
-    let grown : length (events_of (before ++ event e ∷ [])) ≡ length (events_of before) + 1 =
-    ap length (flat_map-append events_in before (event e ∷ [])) ∙ length-append (events_of before) (e ∷ []) in
+    let fits = not_lt MOST_EVENTS (length (flat_map events_in before) + 1) (omega (arith, few)) in
+    let grown : length (flat_map events_in (before ++ event e ∷ [])) ≡ length (flat_map events_in before) + 1 =
+    ap length (flat_map-append events_in before (event e ∷ [])) ∙ length-append (flat_map events_in before) (e ∷ []) in
     rw fits (given_events number (n + 1) (before ++ event e ∷ []) more (omega (arith, grown, few)) ∙ ap Ok (append_assoc before (event e ∷ []) (map event more)))
 
 events_read : (number : Version) (more : List Event) → All (IsEvent number) more → map (script_line_of number) (map event_words more) ≡ map ok_event more
@@ -211,7 +211,7 @@ start Second time [] = version ∷ clock time ∷ []
 start Second time (text ∷ texts) = version ∷ clock time ∷ arguments (text ∷ texts) ∷ []
 
 version_line : ReadsScript Second (codes "script" ∷ codes "2" ∷ []) version
-unfolding script_line_of keyword_of rows_of keyword_row script_meaning_of version_of
+unfolding script_line_of keyword_of rows_of row_named script_meaning_of version_of
 version_line = refl
 
 all_given : (number : Version) (time : Clock) (texts : List (List ℕ)) (more : List Event) → IsTime time → AreBytes texts → All (IsEvent number) more → length more ≤ MOST_EVENTS
@@ -228,11 +228,11 @@ all_given Second time (text ∷ texts) more is small valid few =
     (given_events Second 4 (version ∷ clock time ∷ arguments (text ∷ texts) ∷ []) more (omega (arith, few)))
 
 -- what they give makes the same script
-events_only : (more : List Event) → events_of (map event more) ≡ more
+events_only : (more : List Event) → flat_map events_in (map event more) ≡ more
 events_only [] = refl
 events_only (e ∷ more) = ap (λ rest. e ∷ rest) (events_only more)
 
-no_arguments : (more : List Event) → arguments_of (map event more) ≡ []
+no_arguments : (more : List Event) → flat_map arguments_in (map event more) ≡ []
 no_arguments [] = refl
 no_arguments (e ∷ more) = no_arguments more
 

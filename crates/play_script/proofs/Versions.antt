@@ -1,6 +1,6 @@
 -- What version 1 reads, version 2 reads too.
 use Rattle.std.proofs.lemmas.Grind.{common_steps}
-use Rattle.std.proofs.Common.{◌≡◌, ℕ, ◌+◌, ◌<◌, ◌≤◌, Bool, true, false, cond, List, [], ◌∷◌, ◌++◌, length, Option, Some, None, Result, Ok, Err, refl}
+use Rattle.std.proofs.Common.{◌≡◌, ℕ, ◌+◌, ◌<◌, ◌≤◌, Bool, true, false, cond, List, [], ◌∷◌, ◌++◌, length, drop, Option, Some, None, Result, Ok, Err, refl}
 use Rattle.std.proofs.Common.{sym, ap, ◌∙◌, arith, rules, tests}
 use Rattle.std.specs.Prelude.{codes}
 use Rattle.std.specs.List.{All, AllByRecursion, find}
@@ -9,21 +9,21 @@ use Rattle.std.specs.Str.{bytes_eq}
 use Rattle.std.proofs.lemmas.List.Elements.{All-from_get_or}
 use Rattle.std.proofs.lemmas.List.Splits.{slice_split_at}
 use Rattle.uxn_limits.specs.declared.limits.TheConstants.{TEXT_LIMIT}
-use Rattle.text_lines.specs.declared.row.Counts.{Counts}
 use Rattle.text_lines.specs.declared.row.Counts.TheVariants.{Exactly, Between}
 use Rattle.text_lines.specs.declared.row.LineFault.{LineFault}
 use Rattle.text_lines.specs.Lines.{is_newline, words_of}
 use Rattle.text_lines.specs.Numbers.{begins_with}
 use Rattle.text_lines.specs.Reading.{Line, given, made, each_line}
-use Rattle.text_lines.specs.Rows.{keyword_row, counted, keyword_of, line_by}
+use Rattle.text_lines.specs.Rows.{Row as AnyRow, Rows, fault_named, row_named, counted, keyword_of, line_by}
 use Rattle.play_script.specs.declared.keyword.Keyword.{Keyword}
+use Rattle.play_script.specs.declared.keyword.TheConstants.{FURTHER, ROWS}
 use Rattle.play_script.specs.declared.keyword.Keyword.TheVariants as word
 use Rattle.play_script.specs.declared.script.ScriptKind.{ScriptKind}
-use Rattle.play_script.specs.declared.script.ScriptKind.TheVariants.{BadValue}
+use Rattle.play_script.specs.declared.script.ScriptKind.TheVariants.{Unknown, Missing, Extra, BadValue}
 use Rattle.play_script.specs.declared.script.Version.{Version}
 use Rattle.play_script.specs.declared.script.Version.TheVariants.{First, Second}
 use Rattle.play_script.specs.Rows.{Meaning, version, clock, arguments, events, script_meaning_of, events_of_line, device_of, version_of}
-use Rattle.play_script.specs.Rows.{clock_of_values, keys_of, buttons_of, script_kind_of, script_line_of, rows_of, first_rows, second_rows}
+use Rattle.play_script.specs.Rows.{clock_of_values, keys_of, buttons_of, script_line_of, rows_of}
 use Rattle.play_script.specs.Scripts.{ScriptView, script_fault, script_from, script_of, version_in}
 use Rattle.play_script.specs.Values.{texts_of_values}
 use Rattle.play_script.proofs.Stepping.{script_by, short_script}
@@ -40,10 +40,13 @@ found_holds P test (x ∷ xs) all = found_at P test x (find test xs) (test x) re
 
 -- what a row of version 1 reads
 abbrev Row : Type 0
-Row = List ℕ × Counts × Keyword
+Row = AnyRow Keyword
+
+abbrev first_rows : Rows Keyword
+first_rows = drop FURTHER ROWS
 
 abbrev meant : Version → Line (Keyword × List (List ℕ)) LineFault → Line Meaning ScriptKind
-meant number said = line_by script_kind_of (λ keyword values. ok_or (script_meaning_of keyword number values) BadValue) said
+meant number said = line_by (fault_named Unknown Missing Extra) (λ keyword values. ok_or (script_meaning_of keyword number values) BadValue) said
 
 abbrev said_by : Result Keyword LineFault → List (List ℕ) → Line (Keyword × List (List ℕ)) LineFault
 said_by answer values = made (λ keyword. Some (keyword, values)) answer
@@ -53,26 +56,26 @@ reads number found values = meant number (said_by (counted found (length values)
 
 record Carries (row : Row) : Type 0 where
   same : (values : List (List ℕ)) (m : Option Meaning) → reads First (Some row) values ≡ Ok m
-      → reads Second (keyword_row second_rows row.0) values ≡ Ok m
+      → reads Second (row_named ROWS row.0.now) values ≡ Ok m
 
-same_row : (row : Row) → keyword_row second_rows row.0 ≡ Some row
+same_row : (row : Row) → row_named ROWS row.0.now ≡ Some row
     → ((values : List (List ℕ)) → script_meaning_of row.2 First values ≡ script_meaning_of row.2 Second values) → Carries row
 same_row row found equal = grind (arith, common_steps)
 
-wide_line : (name : List ℕ) (keyword : Keyword) → keyword_row second_rows name ≡ Some (name, Between 1 2, keyword)
+wide_line : (name : List ℕ) (keyword : Keyword) → row_named ROWS name ≡ Some (record { now = name }, Between 1 2, keyword)
     → ((b : List ℕ) → script_meaning_of keyword First (b ∷ []) ≡ script_meaning_of keyword Second (b ∷ []))
     → (values : List (List ℕ)) (m : Option Meaning)
-    → reads First (Some (name, Exactly 1, keyword)) values ≡ Ok m → reads Second (keyword_row second_rows name) values ≡ Ok m
+    → reads First (Some (record { now = name }, Exactly 1, keyword)) values ≡ Ok m → reads Second (row_named ROWS name) values ≡ Ok m
 wide_line name keyword found equal [] m is = absurd (grind (arith, is))
 wide_line name keyword found equal (b ∷ []) m is = rw found (ap (λ m. made Some (ok_or m BadValue)) (sym (equal b)) ∙ is)
 wide_line name keyword found equal (b ∷ c ∷ more) m is = grind (arith, common_steps)
 
-wide_row : (name : List ℕ) (keyword : Keyword) → keyword_row second_rows name ≡ Some (name, Between 1 2, keyword)
-    → ((b : List ℕ) → script_meaning_of keyword First (b ∷ []) ≡ script_meaning_of keyword Second (b ∷ [])) → Carries (name, Exactly 1, keyword)
+wide_row : (name : List ℕ) (keyword : Keyword) → row_named ROWS name ≡ Some (record { now = name }, Between 1 2, keyword)
+    → ((b : List ℕ) → script_meaning_of keyword First (b ∷ []) ≡ script_meaning_of keyword Second (b ∷ [])) → Carries (record { now = name }, Exactly 1, keyword)
 wide_row name keyword found equal = record { same = wide_line name keyword found equal }
 
 all_carry : AllByRecursion Carries first_rows
-unfolding keyword_row script_meaning_of events_of_line device_of keys_of buttons_of
+unfolding row_named script_meaning_of events_of_line device_of keys_of buttons_of
 all_carry = search (same_row, wide_row)
 
 -- version 1 has no line that tells a version
@@ -109,19 +112,19 @@ Lifts number words m = (Gives (script_line_of number words) m) × IfSome m IsNoV
 same_text : (xs ys : List ℕ) → bytes_eq xs ys ≡ true → xs ≡ ys
 same_text xs ys is = search (rules, tests)
 
-lift_row : (name : List ℕ) (values : List (List ℕ)) (m : Option Meaning) (found : Option Row) → IfSome found (λ row. Carries row × (bytes_eq name row.0 ≡ true))
-    → Gives (reads First found values) m → Gives (reads Second (keyword_row second_rows name) values) m
+lift_row : (name : List ℕ) (values : List (List ℕ)) (m : Option Meaning) (found : Option Row) → IfSome found (λ row. Carries row × (bytes_eq row.0.now name ≡ true))
+    → Gives (reads First found values) m → Gives (reads Second (row_named ROWS name) values) m
 lift_row name values m None holds is = absurd (grind (arith, is))
-lift_row name values m (Some row) holds is = rw (same_text name row.0 holds.1) (holds.0.same values m is)
+lift_row name values m (Some row) holds is = rw (sym (same_text row.0.now name holds.1)) (holds.0.same values m is)
 
 lift_if : (test : Bool) (name : List ℕ) (values : List (List ℕ)) (m : Option Meaning)
-    → Gives (meant First (cond test (Ok None) (said_by (counted (keyword_row first_rows name) (length values)) values))) m
-    → (Gives (meant Second (cond test (Ok None) (said_by (counted (keyword_row second_rows name) (length values)) values))) m) × IfSome m IsNoVersion
-unfolding keyword_row
+    → Gives (meant First (cond test (Ok None) (said_by (counted (row_named first_rows name) (length values)) values))) m
+    → (Gives (meant Second (cond test (Ok None) (said_by (counted (row_named ROWS name) (length values)) values))) m) × IfSome m IsNoVersion
+unfolding row_named
 lift_if true name values m is = (is, let same : m ≡ None = grind (arith, is) in rw same tt)
 lift_if false name values m is = (
-  lift_row name values m (keyword_row first_rows name) (found_holds Carries (λ row. bytes_eq name row.0) first_rows all_carry) is,
-  none_read (counted (keyword_row first_rows name) (length values)) values m is,
+  lift_row name values m (row_named first_rows name) (found_holds Carries (λ row. bytes_eq row.0.now name) first_rows all_carry) is,
+  none_read (counted (row_named first_rows name) (length values)) values m is,
 )
 
 pub lift : (words : List (List ℕ)) (m : Option Meaning) → Gives (script_line_of First words) m → Lifts Second words m
@@ -154,7 +157,7 @@ carried (line ∷ lines) = carry_line lines (words_of line) (script_line_of Firs
 
 -- the first line, which tells version 2
 first_line : script_line_of Second (words_of (codes "script 2")) ≡ Ok (Some version)
-unfolding script_line_of keyword_of rows_of keyword_row script_meaning_of version_of words_of
+unfolding script_line_of keyword_of rows_of row_named script_meaning_of version_of words_of
 first_line = refl
 
 tells : (lines : List (List ℕ)) → version_in (codes "script 2" ∷ lines) ≡ Second

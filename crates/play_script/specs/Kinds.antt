@@ -1,13 +1,10 @@
 -- The names of what can be wrong with a line of a script, as they are printed (profile).
-use Rattle.std.specs.Prelude.{ℕ, List, codes}
+use denote.Enum.Declared.{tag_of}
+use Rattle.std.specs.Prelude.{ℕ, List, [], map, slice_index_or}
+use Rattle.play_script.specs.contracts.script.ScriptKind.{the_type}
 use Rattle.play_script.specs.declared.script.ScriptKind.{ScriptKind}
-use Rattle.play_script.specs.declared.script.ScriptKind.TheVariants.{Unknown, BadValue, Missing, Extra, Late, ManyEvents, LongScript}
+use Rattle.play_script.specs.declared.script.TheConstants.{KIND_NAMES}
 
+-- that of the kind's place among the kinds
 abbrev pub script_kind_name : ScriptKind → List ℕ
-script_kind_name Unknown = codes "Unknown"
-script_kind_name BadValue = codes "BadValue"
-script_kind_name Missing = codes "Missing"
-script_kind_name Extra = codes "Extra"
-script_kind_name Late = codes "Late"
-script_kind_name ManyEvents = codes "ManyEvents"
-script_kind_name LongScript = codes "LongScript"
+script_kind_name kind = slice_index_or (map (λ name. name.now) KIND_NAMES) (tag_of the_type kind) []

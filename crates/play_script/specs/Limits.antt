@@ -1,7 +1,7 @@
 -- What holds of every script that was read (profile).
 use Rattle.std.specs.Prelude.{ℕ, ◌+◌, ◌<◌, ◌≤◌, ◌≡◌, ◌==◌, Bool, true, pos, neg_ℤ, ◌≤ℤ◌}
 use Rattle.std.specs.Prelude.{[], ◌∷◌, length, List}
-use Rattle.std.specs.List.{All, AllByRecursion, list_all, list_any, sum_by}
+use Rattle.std.specs.List.{All, AllByRecursion, list_any, sum_by}
 use Rattle.uxn_limits.specs.declared.limits.TheConstants.{TEXT_LIMIT, MOST_EVENTS, LAST_SECOND, LAST_OFFSET}
 use Rattle.play_script.specs.declared.script.Clock.{Clock}
 use Rattle.play_script.specs.declared.script.Event.{Event}
@@ -11,7 +11,6 @@ use Rattle.play_script.specs.declared.values.Value.{Value}
 use Rattle.play_script.specs.declared.values.Value.TheVariants.{Byte, Button, MouseButton, Player, Pixel, Turn, Seconds, Minutes}
 use Rattle.play_script.specs.PlainText.{plain_event}
 use Rattle.play_script.specs.Scripts.{ScriptView}
-use Rattle.play_script.specs.Values.{Buttons}
 
 -- a mask of one button
 abbrev pub is_bit : ℕ → Bool
@@ -19,9 +18,6 @@ is_bit mask = list_any (λ bit. bit == mask) (1 ∷ 2 ∷ 4 ∷ 8 ∷ 16 ∷ 32 
 
 abbrev pub IsBit : ℕ → Type 0
 IsBit mask = is_bit mask ≡ true
-
-abbrev pub are_bits : Buttons → Bool
-are_bits table = list_all (λ row. is_bit row.1) table
 
 -- the range of each value of a line
 abbrev pub IsValue : Value → Type 0

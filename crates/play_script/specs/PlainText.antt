@@ -13,7 +13,8 @@ use Rattle.play_script.specs.declared.script.Version.{Version}
 use Rattle.play_script.specs.declared.script.Version.TheVariants.{First, Second}
 use Rattle.play_script.specs.declared.values.Value.{Value}
 use Rattle.play_script.specs.declared.values.Value.TheVariants.{Byte, Button, MouseButton, Player, Pixel, Turn, Seconds, Minutes}
-use Rattle.play_script.specs.Values.{Buttons, buttons, mouse_buttons}
+use Rattle.play_script.specs.declared.values.TheConstants.{BUTTONS, MOUSE_BUTTONS}
+use Rattle.play_script.specs.Values.{Buttons}
 use Rattle.play_script.specs.Scripts.{ScriptView}
 
 -- bytes as a text word: pairs of lowercase hexadecimal digits, or `"` alone where there are none
@@ -22,13 +23,13 @@ text_word bytes = if length bytes == 0 then codes "\"" else encode_lower bytes
 
 -- the name of a button
 unfoldable pub name_in : Buttons → ℕ → List ℕ
-name_in table mask = unwrap_or (option_map (λ row. row.0) (find (λ row. row.1 == mask) table)) []
+name_in table mask = unwrap_or (option_map (λ row. row.0.now) (find (λ row. row.1 == mask) table)) []
 
 -- a value of a line as a word
 unfoldable pub value_word : Value → List ℕ
 value_word (Byte byte) = encode_lower (byte ∷ [])
-value_word (Button mask) = name_in buttons mask
-value_word (MouseButton mask) = name_in mouse_buttons mask
+value_word (Button mask) = name_in BUTTONS mask
+value_word (MouseButton mask) = name_in MOUSE_BUTTONS mask
 value_word (Player number) = decimal number
 value_word (Pixel at) = decimal at
 value_word (Turn steps) = signed_decimal steps

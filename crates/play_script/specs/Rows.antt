@@ -1,15 +1,12 @@
 -- What a line of a script means (profile), a row for each first word.
-use Rattle.std.specs.Prelude.{ℕ, ◌==◌, if◌then◌else◌, pos, List, [], ◌∷◌, codes, replicate, map, Option, Some, None, option_map}
+use Rattle.std.specs.Prelude.{ℕ, ◌==◌, if◌then◌else◌, pos, List, [], ◌∷◌, codes, drop, replicate, map, Option, Some, None, option_map}
 use Rattle.std.specs.List.{flat_map}
 use Rattle.std.specs.Option.{ok_or, option_zip}
 use Rattle.std.specs.Str.{bytes_eq}
 use Rattle.uxn_limits.specs.declared.limits.TheConstants.{MOST_TIMES, LAST_SECOND, LAST_OFFSET}
-use Rattle.text_lines.specs.declared.row.Counts.TheVariants.{Exactly, Between, AtLeast}
-use Rattle.text_lines.specs.declared.row.LineFault.{LineFault}
-use Rattle.text_lines.specs.declared.row.LineFault.TheVariants as line
 use Rattle.text_lines.specs.Numbers.{byte_of, integer_within, number_within}
 use Rattle.text_lines.specs.Reading.{Line}
-use Rattle.text_lines.specs.Rows.{Rows, keyword_of, line_by}
+use Rattle.text_lines.specs.Rows.{Rows, fault_named, keyword_of, line_by}
 use Rattle.input_ports.specs.declared.Input.{Input as DeviceInput}
 use Rattle.input_ports.specs.declared.Input.TheVariants.{Key, Down, Up, Mouse, Press, Release, Scroll, DownOf, UpOf}
 use Rattle.play_script.specs.declared.script.Clock.{Clock}
@@ -19,9 +16,11 @@ use Rattle.play_script.specs.declared.script.ScriptKind.{ScriptKind}
 use Rattle.play_script.specs.declared.script.ScriptKind.TheVariants.{Unknown, BadValue, Missing, Extra}
 use Rattle.play_script.specs.declared.script.Version.{Version}
 use Rattle.play_script.specs.declared.script.Version.TheVariants.{First, Second}
+use Rattle.play_script.specs.declared.keyword.TheConstants.{FURTHER, ROWS}
 use Rattle.play_script.specs.declared.keyword.Keyword.{Keyword}
 use Rattle.play_script.specs.declared.keyword.Keyword.TheVariants as word
-use Rattle.play_script.specs.Values.{texts_of_values, bit_in, buttons, mouse_buttons, one_or}
+use Rattle.play_script.specs.Values.{texts_of_values, bit_in, one_or}
+use Rattle.play_script.specs.declared.values.TheConstants.{BUTTONS, MOUSE_BUTTONS}
 
 -- what a line means
 pub data Meaning : Type 0 where
@@ -72,11 +71,11 @@ expect_of _ _ = None
 -- what values make of a player's buttons, of the mouse's buttons, of numbers of columns and rows, and of a wheel's ways
 unfoldable pub buttons_of : (ℕ → ℕ → DeviceInput) → Version → List (List ℕ) → Option DeviceInput
 buttons_of input number [] = None
-buttons_of input number (b ∷ more) = option_map (λ both. input both.0 both.1) (option_zip (bit_in buttons b) (one_or 4 (further number more)))
+buttons_of input number (b ∷ more) = option_map (λ both. input both.0 both.1) (option_zip (bit_in BUTTONS b) (one_or 4 (further number more)))
 
 unfoldable pub mouse_buttons_of : (ℕ → DeviceInput) → List (List ℕ) → Option DeviceInput
 mouse_buttons_of input [] = None
-mouse_buttons_of input (n ∷ more) = option_map input (bit_in mouse_buttons n)
+mouse_buttons_of input (n ∷ more) = option_map input (bit_in MOUSE_BUTTONS n)
 
 unfoldable pub mouse_of : List (List ℕ) → Option DeviceInput
 mouse_of (x ∷ y ∷ more) = option_map (λ at. Mouse at.0 at.1) (option_zip (number_within 0 65535 x) (number_within 0 65535 y))
@@ -111,44 +110,14 @@ script_meaning_of word.Clock number values = option_map clock (clock_of_values v
 script_meaning_of word.Args number values = option_map arguments (texts_of_values values)
 script_meaning_of keyword number values = option_map events (events_of_line keyword number values)
 
--- the first words of version 1, with how many values each takes
-abbrev pub first_rows : Rows Keyword
-first_rows =
-    (codes "frame", Between 0 1, word.Frame)
-    ∷ (codes "clock", Exactly 2, word.Clock)
-    ∷ (codes "args", AtLeast 1, word.Args)
-    ∷ (codes "input", AtLeast 1, word.Input)
-    ∷ (codes "end", Exactly 0, word.End)
-    ∷ (codes "key", Exactly 1, word.Key)
-    ∷ (codes "down", Exactly 1, word.Down)
-    ∷ (codes "up", Exactly 1, word.Up)
-    ∷ (codes "mouse", Exactly 2, word.Mouse)
-    ∷ (codes "press", Exactly 1, word.Press)
-    ∷ (codes "release", Exactly 1, word.Release)
-    ∷ (codes "scroll", Exactly 2, word.Scroll)
-    ∷ (codes "shot", Exactly 0, word.Shot)
-    ∷ []
-
--- those of version 2: a row that it has in place of one of version 1 stands before that
-abbrev pub second_rows : Rows Keyword
-second_rows =
-    (codes "script", Exactly 1, word.Script)
-    ∷ (codes "expect", Exactly 2, word.Expect)
-    ∷ (codes "key", Between 1 2, word.Key)
-    ∷ (codes "down", Between 1 2, word.Down)
-    ∷ (codes "up", Between 1 2, word.Up)
-    ∷ first_rows
-
+-- the rows of a version: those at the start of the table are of version 2 alone. A row that it has in place of one of version 1 stands
+-- before that
 unfoldable pub rows_of : Version → Rows Keyword
-rows_of First = first_rows
-rows_of Second = second_rows
-
-abbrev pub script_kind_of : LineFault → ScriptKind
-script_kind_of line.Unknown = Unknown
-script_kind_of line.Missing = Missing
-script_kind_of line.Extra = Extra
+rows_of First = drop FURTHER ROWS
+rows_of Second = ROWS
 
 -- what the words of a line mean, or what is wrong with them; a line without words or with `#` before its first means nothing
 unfoldable pub script_line_of : Version → List (List ℕ) → Line Meaning ScriptKind
 script_line_of number words =
-    line_by script_kind_of (λ keyword values. ok_or (script_meaning_of keyword number values) BadValue) (keyword_of (rows_of number) words)
+    line_by (fault_named Unknown Missing Extra)
+    (λ keyword values. ok_or (script_meaning_of keyword number values) BadValue) (keyword_of (rows_of number) words)

@@ -58,17 +58,7 @@ abbrev pub events_in : Meaning → List Event
 events_in (events given) = given
 events_in _ = []
 
--- what lines give, in order
-abbrev pub clocks_of : List Meaning → List Clock
-clocks_of lines = flat_map clocks_in lines
-
-abbrev pub arguments_of : List Meaning → List (List (List ℕ))
-arguments_of lines = flat_map arguments_in lines
-
-abbrev pub events_of : List Meaning → List Event
-events_of lines = flat_map events_in lines
-
--- what lines gave
+-- what lines gave, in order
 pub record GatheredView : Type 0 where
   pub version : Version
   pub begun : Bool
@@ -80,9 +70,9 @@ abbrev pub gathered : Version → List Meaning → GatheredView
 gathered number lines = record {
   version = number;
   begun = nat_lt 0 (length lines);
-  clock = slice_get (clocks_of lines) 0;
-  arguments = slice_get (arguments_of lines) 0;
-  events = events_of lines;
+  clock = slice_get (flat_map clocks_in lines) 0;
+  arguments = slice_get (flat_map arguments_in lines) 0;
+  events = flat_map events_in lines;
 }
 
 -- what is wrong with a line behind those that gave this: `script` stands before all lines with words, `clock` and `args`

@@ -17,7 +17,7 @@ ghost use Rattle.play_script.specs.declared.script.Version.TheVariants.{First as
 
 use crate::keyword::{Keyword, rows_of};
 use crate::script::{Clock, Event, LineStop, ScriptKind, Version};
-use crate::values::{bit_in, buttons, mouse_buttons, one_or, text_of_values};
+use crate::values::{button_bit, mouse_button_bit, one_or, text_of_values};
 use input_ports::Input;
 use std::alloc::{AllocError, Global};
 use text_lines::{LineFault, byte_of, first_word, integer_within, keyword_of, number_within};
@@ -38,10 +38,11 @@ pub(crate) enum Meaning {
 }
 
 impl From<LineFault> for LineStop {
-    ghost use Rattle.play_script.specs.Rows.{script_kind_of};
+    ghost use Rattle.text_lines.specs.Rows.{fault_named};
+    ghost use Rattle.play_script.specs.declared.script.ScriptKind.TheVariants.{Unknown, Missing, Extra};
     ghost use Rattle.play_script.specs.declared.script.LineStop.TheVariants.{Faulty};
 
-    ghost from_gives = { λ fault stop. stop ≡ Faulty (script_kind_of fault) };
+    ghost from_gives = { λ fault stop. stop ≡ Faulty (fault_named Unknown Missing Extra fault) };
 
     fn from(fault: LineFault) -> LineStop {
         LineStop::Faulty(match fault {
@@ -203,7 +204,7 @@ fn button_in(version: Version, values: &[u8]) -> Option<(u8, u8)>
     ensures limits { IfSome result (λ b. IsBit b.0 × (b.1 ≢ 1 → IsPlayer version b.1)) }
 {
     let (word, more) = first_word(values)?;
-    let mask = bit_in(buttons(), word)?;
+    let mask = button_bit(word)?;
     Some((mask, further_of(version, PLAYERS, more)? as u8))
 }
 
@@ -212,7 +213,7 @@ fn mouse_button_in(values: &[u8]) -> Option<u8>
     ensures bit { IfSome result IsBit }
     ensures input { (make : ℕ → DeviceInput) → option_map make result ≡ mouse_buttons_of make (words_of values.now) }
 {
-    bit_in(mouse_buttons(), first_word(values)?.0)
+    mouse_button_bit(first_word(values)?.0)
 }
 
 #[tactic(auto, unfolding(crate::specs::Rows::mouse_of))]

@@ -18,7 +18,7 @@ use crate::script::{Clock, Event, Script};
 use crate::values::Value::{
     self, Button, Byte, Minutes, MouseButton, Pixel, Player, Seconds, Turn,
 };
-use crate::values::{buttons, mouse_buttons, name_in};
+use crate::values::{button_name, mouse_button_name};
 use input_ports::Input;
 use std::alloc::{AllocError, Global};
 use uxn_io_traits::{Bytes, decimal};
@@ -162,8 +162,8 @@ fn put_value(text: &mut Vec<u8>, value: Value) -> Result<(), AllocError>
 {
     match value {
         Byte(byte) => text.extend_from_slice(pair(byte).as_slice()),
-        Button(mask) => text.extend_from_slice(name_in(buttons(), mask)),
-        MouseButton(mask) => text.extend_from_slice(name_in(mouse_buttons(), mask)),
+        Button(mask) => text.extend_from_slice(button_name(mask)),
+        MouseButton(mask) => text.extend_from_slice(mouse_button_name(mask)),
         Player(number) => put_number(text, u64::from(number)),
         Pixel(at) => put_number(text, u64::from(at)),
         Turn(steps) => put_signed(text, i64::from(steps)),

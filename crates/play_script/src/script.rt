@@ -148,6 +148,17 @@ pub enum ScriptKind {
     LongScript,
 }
 
+/// The names of the kinds, in their order.
+pub const KIND_NAMES: [&str; 7] = [
+    "Unknown",
+    "BadValue",
+    "Missing",
+    "Extra",
+    "Late",
+    "ManyEvents",
+    "LongScript",
+];
+
 impl ScriptKind {
     ghost use Rattle.play_script.specs.Kinds.{script_kind_name};
 
@@ -155,15 +166,7 @@ impl ScriptKind {
     pub fn name(self) -> &'static str
         ensures { result.now ≡ script_kind_name self }
     {
-        match self {
-            ScriptKind::Unknown => "Unknown",
-            ScriptKind::BadValue => "BadValue",
-            ScriptKind::Missing => "Missing",
-            ScriptKind::Extra => "Extra",
-            ScriptKind::Late => "Late",
-            ScriptKind::ManyEvents => "ManyEvents",
-            ScriptKind::LongScript => "LongScript",
-        }
+        KIND_NAMES[self as usize]
     }
 }
 

@@ -1,12 +1,14 @@
 //! What the words behind a line's first word represent.
 
-ghost use Rattle.std.specs.Prelude.{◌≡◌, ◌+◌, ◌<◌, ◌≤◌, length, IfOk, IfSome, IsTrue};
+ghost use Rattle.std.specs.Prelude.{◌≡◌, ◌+◌, ◌<◌, ◌≤◌, length, find, option_copied, ◌==◌, IfOk, IfSome};
+ghost use Rattle.std.specs.Str.{bytes_eq};
 ghost use Rattle.std.specs.List.{All};
 ghost use Rattle.text_lines.specs.Lines.{words_of};
 ghost use Rattle.play_script.specs.Held.{bytes_if};
 ghost use Rattle.play_script.specs.PlainText.{name_in};
-ghost use Rattle.play_script.specs.Limits.{are_bits, IsBit};
-ghost use Rattle.play_script.specs.Values.{text_of_values, bit_in, buttons, buttons_in, mouse_buttons, one_or};
+ghost use Rattle.play_script.specs.Limits.{IsBit};
+ghost use Rattle.play_script.specs.Values.{text_of_values, bit_in, one_or};
+ghost use Rattle.play_script.specs.declared.values.TheConstants.{BUTTONS, MOUSE_BUTTONS};
 
 use hex::FromHexError;
 use std::alloc::{AllocError, Global};
@@ -60,75 +62,90 @@ pub(crate) fn one_or(most: u64, values: &[u8]) -> Option<u64>
 }
 
 /// A row of a table of buttons: the name of one, and its bit.
-#[derive(Clone, Copy)]
-pub(crate) struct ButtonRow(&'static str, u8);
+pub(crate) type ButtonRow = (&'static str, u8);
 
-static BUTTONS: [ButtonRow; 8] = [
-    ButtonRow("a", 0x01),
-    ButtonRow("b", 0x02),
-    ButtonRow("select", 0x04),
-    ButtonRow("start", 0x08),
-    ButtonRow("up", 0x10),
-    ButtonRow("down", 0x20),
-    ButtonRow("left", 0x40),
-    ButtonRow("right", 0x80),
+/// The controller's buttons.
+pub(crate) const BUTTONS: [ButtonRow; 8] = [
+    ("a", 0x01),
+    ("b", 0x02),
+    ("select", 0x04),
+    ("start", 0x08),
+    ("up", 0x10),
+    ("down", 0x20),
+    ("left", 0x40),
+    ("right", 0x80),
 ];
 
-static MOUSE_BUTTONS: [ButtonRow; 8] = [
-    ButtonRow("1", 0x01),
-    ButtonRow("2", 0x02),
-    ButtonRow("3", 0x04),
-    ButtonRow("4", 0x08),
-    ButtonRow("5", 0x10),
-    ButtonRow("6", 0x20),
-    ButtonRow("7", 0x40),
-    ButtonRow("8", 0x80),
+/// The mouse's buttons, which are numbered from 1.
+pub(crate) const MOUSE_BUTTONS: [ButtonRow; 8] = [
+    ("1", 0x01),
+    ("2", 0x02),
+    ("3", 0x04),
+    ("4", 0x08),
+    ("5", 0x10),
+    ("6", 0x20),
+    ("7", 0x40),
+    ("8", 0x80),
 ];
 
-// The controller's buttons.
-pub(crate) fn buttons() -> &'static [ButtonRow]
-    ensures table { buttons_in result.now ≡ buttons }
-    ensures bits { IsTrue (are_bits (buttons_in result.now)) }
-{
-    BUTTONS.as_slice()
-}
+static BUTTON_TABLE: [ButtonRow; 8] = BUTTONS;
 
-// The mouse's buttons.
-pub(crate) fn mouse_buttons() -> &'static [ButtonRow]
-    ensures table { buttons_in result.now ≡ mouse_buttons }
-    ensures bits { IsTrue (are_bits (buttons_in result.now)) }
-{
-    MOUSE_BUTTONS.as_slice()
-}
+static MOUSE_BUTTON_TABLE: [ButtonRow; 8] = MOUSE_BUTTONS;
 
-// The bit of a button in a table.
+// The bit of a controller's button.
 #[tactic(auto, unfolding(crate::specs::Values::bit_in))]
-pub(crate) fn bit_in(table: &[ButtonRow], word: &[u8]) -> Option<u8>
-    requires { IsTrue (are_bits (buttons_in table.now)) }
-    ensures button { result ≡ bit_in (buttons_in table.now) word.now }
+pub(crate) fn button_bit(word: &[u8]) -> Option<u8>
+    ensures button { result ≡ bit_in BUTTONS word.now }
     ensures bit { IfSome result IsBit }
 {
-    let mut left = table;
-    while let Some((row, more)) = left.split_first() {
-        if row.0.as_bytes() == word {
-            return Some(row.1);
-        }
-        left = more;
+    match row_named(BUTTON_TABLE.as_slice(), word) {
+        Some(row) => Some(row.1),
+        None => None,
     }
-    None
 }
 
-// The name of the button with this bit in a table, or nothing.
-#[tactic(auto, unfolding(crate::specs::PlainText::name_in))]
-pub(crate) fn name_in(table: &'static [ButtonRow], mask: u8) -> &'static [u8]
-    ensures { result.now ≡ name_in (buttons_in table.now) mask }
+// The bit of a mouse's button.
+#[tactic(auto, unfolding(crate::specs::Values::bit_in))]
+pub(crate) fn mouse_button_bit(word: &[u8]) -> Option<u8>
+    ensures button { result ≡ bit_in MOUSE_BUTTONS word.now }
+    ensures bit { IfSome result IsBit }
 {
-    let mut left = table;
-    while let Some((row, more)) = left.split_first() {
-        if row.1 == mask {
-            return row.0.as_bytes();
-        }
-        left = more;
+    match row_named(MOUSE_BUTTON_TABLE.as_slice(), word) {
+        Some(row) => Some(row.1),
+        None => None,
     }
-    b"".as_slice()
+}
+
+fn row_named<'a>(rows: &'a [ButtonRow], word: &[u8]) -> Option<&'a ButtonRow>
+    ensures { option_copied result ≡ find (λ row. bytes_eq row.0.now word.now) rows.now }
+{
+    rows.iter().find(|row| row.0.as_bytes() == word)
+}
+
+// The name of the controller's button with this bit, or nothing.
+#[tactic(auto, unfolding(crate::specs::PlainText::name_in))]
+pub(crate) fn button_name(mask: u8) -> &'static [u8]
+    ensures { result.now ≡ name_in BUTTONS mask }
+{
+    match row_of_bit(BUTTON_TABLE.as_slice(), mask) {
+        Some(row) => row.0.as_bytes(),
+        None => b"".as_slice(),
+    }
+}
+
+// The name of the mouse's button with this bit, or nothing.
+#[tactic(auto, unfolding(crate::specs::PlainText::name_in))]
+pub(crate) fn mouse_button_name(mask: u8) -> &'static [u8]
+    ensures { result.now ≡ name_in MOUSE_BUTTONS mask }
+{
+    match row_of_bit(MOUSE_BUTTON_TABLE.as_slice(), mask) {
+        Some(row) => row.0.as_bytes(),
+        None => b"".as_slice(),
+    }
+}
+
+fn row_of_bit(rows: &'static [ButtonRow], mask: u8) -> Option<&'static ButtonRow>
+    ensures { option_copied result ≡ find (λ row. row.1 == mask) rows.now }
+{
+    rows.iter().find(|row| row.1 == mask)
 }

@@ -1,15 +1,13 @@
 -- What a line of a setup gives (profile), a row for each first word.
-use Rattle.std.specs.Prelude.{ℕ, List, [], ◌∷◌, codes, Option, None, option_map}
+use Rattle.std.specs.Prelude.{ℕ, List, ◌∷◌, Option, None, option_map}
 use Rattle.std.specs.Option.{ok_or, option_zip}
 use Rattle.std.specs.Result.{result_ok}
 use Rattle.uxn_limits.specs.declared.limits.TheConstants.{MOST_MACHINES, TURNS_OF_LINE, GREATEST_BUDGET}
-use Rattle.text_lines.specs.declared.row.Counts.TheVariants.{Exactly}
-use Rattle.text_lines.specs.declared.row.LineFault.{LineFault}
-use Rattle.text_lines.specs.declared.row.LineFault.TheVariants as line
 use Rattle.text_lines.specs.Numbers.{number_within}
 use Rattle.text_lines.specs.Reading.{Line}
-use Rattle.text_lines.specs.Rows.{Rows, keyword_of, line_by}
+use Rattle.text_lines.specs.Rows.{fault_named, keyword_of, line_by}
 use Rattle.uxn_io_traits.specs.PathText.{path_of}
+use Rattle.setup_lines.specs.declared.keyword.TheConstants.{ROWS}
 use Rattle.setup_lines.specs.declared.keyword.Keyword.{Keyword}
 use Rattle.setup_lines.specs.declared.keyword.Keyword.TheVariants as word
 use Rattle.setup_lines.specs.declared.setup.SetupKind.{SetupKind}
@@ -17,15 +15,6 @@ use Rattle.setup_lines.specs.declared.setup.SetupKind.TheVariants.{Unknown, Miss
 use Rattle.setup_lines.specs.declared.setup.Turns.{Turns}
 use Rattle.setup_lines.specs.declared.setup_line.SetupLine.{SetupLine}
 use Rattle.setup_lines.specs.declared.setup_line.SetupLine.TheVariants.{Machine, Script, Budget, Turn}
-
--- the first words, with how many values each takes
-unfoldable pub rows : Rows Keyword
-rows =
-    (codes "machine", Exactly 1, word.Machine)
-    ∷ (codes "script", Exactly 1, word.Script)
-    ∷ (codes "budget", Exactly 1, word.Budget)
-    ∷ (codes "turn", Exactly 2, word.Turn)
-    ∷ []
 
 -- so many turns of a machine, where both are numbers of their ranges
 abbrev pub turns_of : List ℕ → List ℕ → Option Turns
@@ -40,11 +29,7 @@ setup_of_values word.Budget (n ∷ more) = option_map Budget (number_within 1 GR
 setup_of_values word.Turn (m ∷ n ∷ more) = option_map Turn (turns_of m n)
 setup_of_values _ values = None
 
-abbrev pub setup_kind_of : LineFault → SetupKind
-setup_kind_of line.Unknown = Unknown
-setup_kind_of line.Missing = Missing
-setup_kind_of line.Extra = Extra
-
 -- what the words of a line give, or what is wrong with them; a line without words or with `#` before its first gives nothing
 unfoldable pub setup_line_of : List (List ℕ) → Line SetupLine SetupKind
-setup_line_of words = line_by setup_kind_of (λ keyword values. ok_or (setup_of_values keyword values) BadValue) (keyword_of rows words)
+setup_line_of words =
+    line_by (fault_named Unknown Missing Extra) (λ keyword values. ok_or (setup_of_values keyword values) BadValue) (keyword_of ROWS words)

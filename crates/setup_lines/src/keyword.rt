@@ -2,7 +2,7 @@
 
 ghost use Rattle.std.specs.Prelude.{◌≡◌};
 ghost use Rattle.text_lines.specs.Rows.{rows_in};
-ghost use Rattle.setup_lines.specs.SetupLines.{rows};
+ghost use Rattle.setup_lines.specs.declared.keyword.TheConstants.{ROWS};
 
 use text_lines::{Counts, Row};
 
@@ -16,17 +16,18 @@ pub(crate) enum Keyword {
 }
 
 /// The lines of a setup.
-static ROWS: [Row<Keyword>; 4] = [
-    Row("machine", Counts::Exactly(1), Keyword::Machine),
-    Row("script", Counts::Exactly(1), Keyword::Script),
-    Row("budget", Counts::Exactly(1), Keyword::Budget),
-    Row("turn", Counts::Exactly(2), Keyword::Turn),
+pub(crate) const ROWS: [Row<Keyword>; 4] = [
+    ("machine", Counts::Exactly(1), Keyword::Machine),
+    ("script", Counts::Exactly(1), Keyword::Script),
+    ("budget", Counts::Exactly(1), Keyword::Budget),
+    ("turn", Counts::Exactly(2), Keyword::Turn),
 ];
 
+static TABLE: [Row<Keyword>; 4] = ROWS;
+
 // The lines of a setup.
-#[tactic(auto, unfolding(crate::specs::SetupLines::rows))]
 pub(crate) fn rows() -> &'static [Row<Keyword>]
-    ensures { rows_in result.now ≡ rows }
+    ensures { rows_in result.now ≡ ROWS }
 {
-    ROWS.as_slice()
+    TABLE.as_slice()
 }

@@ -124,6 +124,20 @@ pub enum SetupKind {
     LongSetup,
 }
 
+/// The names of the kinds, in their order.
+pub const KIND_NAMES: [&str; 10] = [
+    "Unknown",
+    "Missing",
+    "Extra",
+    "BadValue",
+    "Twice",
+    "ManyMachines",
+    "NoMachine",
+    "ManyTurns",
+    "FewMachines",
+    "LongSetup",
+];
+
 impl SetupKind {
     ghost use Rattle.setup_lines.specs.Kinds.{setup_kind_name};
 
@@ -131,25 +145,15 @@ impl SetupKind {
     pub fn name(self) -> &'static str
         ensures { result.now ≡ setup_kind_name self }
     {
-        match self {
-            SetupKind::Unknown => "Unknown",
-            SetupKind::Missing => "Missing",
-            SetupKind::Extra => "Extra",
-            SetupKind::BadValue => "BadValue",
-            SetupKind::Twice => "Twice",
-            SetupKind::ManyMachines => "ManyMachines",
-            SetupKind::NoMachine => "NoMachine",
-            SetupKind::ManyTurns => "ManyTurns",
-            SetupKind::FewMachines => "FewMachines",
-            SetupKind::LongSetup => "LongSetup",
-        }
+        KIND_NAMES[self as usize]
     }
 }
 
 impl From<LineFault> for SetupKind {
-    ghost use Rattle.setup_lines.specs.SetupLines.{setup_kind_of};
+    ghost use Rattle.text_lines.specs.Rows.{fault_named};
+    ghost use Rattle.setup_lines.specs.declared.setup.SetupKind.TheVariants.{Unknown, Missing, Extra};
 
-    ghost from_gives = { λ fault kind. kind ≡ setup_kind_of fault };
+    ghost from_gives = { λ fault kind. kind ≡ fault_named Unknown Missing Extra fault };
 
     fn from(fault: LineFault) -> SetupKind {
         match fault {

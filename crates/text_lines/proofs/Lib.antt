@@ -1,3 +1,4 @@
 pub mod Cutting
 pub mod Numerals
 pub mod FirstFault
+pub mod Tables

@@ -1,45 +1,48 @@
 -- Tables of the first words of lines (profile): a word, how many values stand behind it, and what it represents.
-use Rattle.std.specs.Prelude.{ℕ, Bool, false, nat_lt, if◌then◌else◌, List, [], ◌∷◌, length, map, Option, Some, None, Result, Ok, Err}
+use Rattle.std.specs.Prelude.{ℕ, false, nat_lt, if◌then◌else◌, List, [], ◌∷◌, length, map, Option, Some, None, Result, Ok, Err}
+use Rattle.std.specs.Borrow.{Bor}
 use Rattle.std.specs.List.{find}
+use Rattle.std.specs.Option.{option_map_or}
 use Rattle.std.specs.Str.{bytes_eq}
 use Rattle.text_lines.specs.Numbers.{begins_with}
 use Rattle.text_lines.specs.Reading.{Line, made}
-use Rattle.text_lines.specs.declared.row.Row.{Row}
 use Rattle.text_lines.specs.declared.row.Counts.{Counts}
 use Rattle.text_lines.specs.declared.row.Counts.TheVariants.{Exactly, Between, AtLeast}
 use Rattle.text_lines.specs.declared.row.LineFault.{LineFault}
 use Rattle.text_lines.specs.declared.row.LineFault.TheVariants.{Unknown, Missing, Extra}
 
--- the rows of a table
-abbrev pub Rows : Type 0 → Type 0
-Rows K = List (List ℕ × Counts × K)
+-- a row of a table, and the rows of one
+abbrev pub Row : Type 0 → Type 0
+Row K = record { now : List ℕ } × Counts × K
 
-abbrev pub rows_in : {K : Type 0} → List (Row K) → Rows K
-rows_in table = map (λ row. (row.0.now, row.1, row.2)) table
+abbrev pub Rows : Type 0 → Type 0
+Rows K = List (Row K)
+
+-- the rows that the code looks up
+abbrev pub row_in : {K : Type 0} → Bor (List ℕ) × Counts × K → Row K
+row_in row = (record { now = row.0.now }, row.1, row.2)
+
+abbrev pub rows_in : {K : Type 0} → List (Bor (List ℕ) × Counts × K) → Rows K
+rows_in table = map row_in table
 
 -- the row of a first word
-unfoldable pub keyword_row : {K : Type 0} → Rows K → List ℕ → Option (List ℕ × Counts × K)
-keyword_row rows name = find (λ row. bytes_eq name row.0) rows
+unfoldable pub row_named : {K : Type 0} → Rows K → List ℕ → Option (Row K)
+row_named rows name = find (λ row. bytes_eq row.0.now name) rows
 
--- there are too few values for a line, and too many
-abbrev pub are_too_few : Counts → ℕ → Bool
-are_too_few (Exactly wanted) count = nat_lt count wanted
-are_too_few (Between least most) count = nat_lt count least
-are_too_few (AtLeast least) count = nat_lt count least
-
-abbrev pub are_too_many : Counts → ℕ → Bool
-are_too_many (Exactly wanted) count = nat_lt wanted count
-are_too_many (Between least most) count = nat_lt most count
-are_too_many (AtLeast least) count = false
+-- the fewest values of a line, and the most, if there is a limit
+abbrev pub count_limits : Counts → ℕ × Option ℕ
+count_limits (Exactly count) = (count, Some count)
+count_limits (Between least most) = (least, Some most)
+count_limits (AtLeast least) = (least, None)
 
 -- the keyword of a row that takes as many values
-abbrev pub with_count : {K : Type 0} → List ℕ × Counts × K → ℕ → Result K LineFault
+abbrev pub with_count : {K : Type 0} → Row K → ℕ → Result K LineFault
 with_count row count =
-    if are_too_few row.1 count then Err Missing
-    else if are_too_many row.1 count then Err Extra
+    if nat_lt count (count_limits row.1).0 then Err Missing
+    else if option_map_or (λ most. nat_lt most count) (count_limits row.1).1 false then Err Extra
     else Ok row.2
 
-abbrev pub counted : {K : Type 0} → Option (List ℕ × Counts × K) → ℕ → Result K LineFault
+abbrev pub counted : {K : Type 0} → Option (Row K) → ℕ → Result K LineFault
 counted None count = Err Unknown
 counted (Some row) count = with_count row count
 
@@ -48,7 +51,13 @@ unfoldable pub keyword_of : {K : Type 0} → Rows K → List (List ℕ) → Line
 keyword_of rows [] = Ok None
 keyword_of rows (name ∷ values) =
     if begins_with 35 name then Ok None
-    else made (λ keyword. Some (keyword, values)) (counted (keyword_row rows name) (length values))
+    else made (λ keyword. Some (keyword, values)) (counted (row_named rows name) (length values))
+
+-- what a text calls the faults of a line's words: an unknown first word, too few values, and too many
+abbrev pub fault_named : {F : Type 0} → F → F → F → LineFault → F
+fault_named unknown missing extra Unknown = unknown
+fault_named unknown missing extra Missing = missing
+fault_named unknown missing extra Extra = extra
 
 -- what a line gives, by what its keyword and values give and by what a fault of its words is
 abbrev pub line_by : {K A F : Type 0} → (LineFault → F) → (K → List (List ℕ) → Result A F)

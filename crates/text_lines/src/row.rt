@@ -1,9 +1,10 @@
 //! Tables of the first words of lines.
 
-ghost use Rattle.std.specs.Prelude.{◌≡◌, ◌≤◌, length, option_map, IfOk, IfSome};
+ghost use Rattle.std.specs.Prelude.{◌≡◌, ◌≤◌, length, find, option_copied, option_map, IfOk, IfSome};
+ghost use Rattle.std.specs.Str.{bytes_eq};
 ghost use Rattle.text_lines.specs.Lines.{words_of};
 ghost use Rattle.text_lines.specs.Reading.{made};
-ghost use Rattle.text_lines.specs.Rows.{rows_in, keyword_row, counted, with_count, keyword_of};
+ghost use Rattle.text_lines.specs.Rows.{row_in, rows_in, row_named, counted, with_count, keyword_of};
 
 use crate::numbers::begins_with;
 use crate::words::first_word;
@@ -20,8 +21,7 @@ pub enum Counts {
 }
 
 /// A row of a table of lines: a first word, how many values it takes, and what it represents.
-#[derive(Clone, Copy)]
-pub struct Row<K>(pub &'static str, pub Counts, pub K);
+pub type Row<K> = (&'static str, Counts, K);
 
 /// What can be wrong with the words of a line.
 #[derive(Clone, Copy, PartialEq, Eq)]
@@ -55,23 +55,25 @@ pub fn keyword_of<'a, K: Copy>(
 }
 
 // The keyword of a first word whose row takes as many values as there are words.
-#[tactic(auto, unfolding(crate::specs::Rows::keyword_row))]
 fn keyword_line<K: Copy>(rows: &[Row<K>], name: &[u8], values: &[u8]) -> Result<K, LineFault>
-    ensures { result ≡ counted (keyword_row (rows_in rows.now) name.now) (length (words_of values.now)) }
+    ensures { result ≡ counted (row_named (rows_in rows.now) name.now) (length (words_of values.now)) }
 {
-    let mut left = rows;
-    while let Some((row, more)) = left.split_first() {
-        if row.0.as_bytes() == name {
-            return count_values(row, values);
-        }
-        left = more;
+    match row_named(rows, name) {
+        Some(row) => count_values(row, values),
+        None => Err(LineFault::Unknown),
     }
-    Err(LineFault::Unknown)
+}
+
+// The row of a first word.
+fn row_named<'a, K: Copy>(rows: &'a [Row<K>], name: &[u8]) -> Option<&'a Row<K>>
+    ensures { option_copied result ≡ find (λ row. bytes_eq row.0.now name.now) rows.now }
+{
+    rows.iter().find(|row| row.0.as_bytes() == name)
 }
 
 // The keyword of a row, where so many values are taken.
 fn count_values<K: Copy>(row: &Row<K>, values: &[u8]) -> Result<K, LineFault>
-    ensures { result ≡ with_count (row.now.0.now, row.now.1, row.now.2) (length (words_of values.now)) }
+    ensures { result ≡ with_count (row_in row.now) (length (words_of values.now)) }
 {
     let (least, most) = match row.1 {
         Counts::Exactly(count) => (count, count),

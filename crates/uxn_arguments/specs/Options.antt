@@ -1,8 +1,10 @@
 -- The options of each command, in the order of its usage line; what each sets in the task that is requested; and which of the files that
 -- a task names it reads, and which it writes (profile).
-use Rattle.std.specs.Prelude.{◌≤◌, ℕ, List, [], ◌∷◌, ◌++◌, codes, Option, Some, None}
+use Rattle.std.specs.Prelude.{◌≤◌, ℕ, List, [], ◌∷◌, ◌++◌, codes, drop, Option, Some, None}
 use Rattle.std.specs.Prelude.{is_some, option_map, option_to_list, ok_or, Result, Ok, ⊤}
-use Rattle.option_table.specs.Words.{Choice, optional, required, switch, operand}
+use Rattle.std.specs.Option.{option_map_or}
+use Rattle.option_table.specs.Words.{Choice, choices_in, operand}
+use Rattle.uxn_arguments.specs.declared.options.TheConstants.{DEBUG_ONLY, DEBUG, ASSEMBLE, DISASSEMBLE}
 use Rattle.uxn_arguments.specs.declared.task.AssembleTask.{AssembleTask}
 use Rattle.uxn_arguments.specs.declared.task.DebugTask.{DebugTask}
 use Rattle.uxn_arguments.specs.declared.task.DisassembleTask.{DisassembleTask}
@@ -17,18 +19,12 @@ use Rattle.uxn_arguments.specs.Values.{Values, then_steps, requested_budget, req
 
 -- ---- how they stand on the command line
 
-abbrev pub run_choices : List Choice
-run_choices =
-    switch (codes "rom") ∷ optional (codes "budget") ∷ optional (codes "script") ∷ optional (codes "root") ∷ optional (codes "frames")
-    ∷ optional (codes "samples") ∷ optional (codes "report") ∷ []
-
 abbrev pub choices_of : Command → List Choice
-choices_of command.Play = run_choices
-choices_of command.Debug = required (codes "commands") ∷ required (codes "log") ∷ optional (codes "symbols") ∷ run_choices
-choices_of command.Assemble = required (codes "out") ∷ optional (codes "symbols") ∷ optional (codes "listing") ∷ []
-choices_of command.Disassemble = optional (codes "symbols") ∷ []
-choices_of command.Generate = []
-choices_of command.Line = []
+choices_of command.Play = choices_in (drop DEBUG_ONLY DEBUG)
+choices_of command.Debug = choices_in DEBUG
+choices_of command.Assemble = choices_in ASSEMBLE
+choices_of command.Disassemble = choices_in DISASSEMBLE
+choices_of _ = []
 
 -- ---- what they set
 
@@ -85,12 +81,11 @@ disassemble_task at =
     Ok (record { file = file; symbols = symbols })))
 
 abbrev pub requested_task : Command → Values → Result Task WordFault
-requested_task command.Play at = requested_run command.Play at
-requested_task command.Debug at = requested_run command.Debug at
 requested_task command.Assemble at = then_steps (assemble_task at) (λ task. Ok (Assemble task))
 requested_task command.Disassemble at = then_steps (disassemble_task at) (λ task. Ok (Disassemble task))
 requested_task command.Generate at = then_steps (ok_or (requested_count (at operand)) NotUnderstood) (λ count. Ok (Generate count))
 requested_task command.Line at = then_steps (required_path at operand) (λ file. Ok (Line file))
+requested_task run at = requested_run run at
 
 -- a run has a budget of at least one instruction
 abbrev pub HasBudget : Task → Type 0
@@ -101,8 +96,7 @@ HasBudget _ = ⊤
 
 -- those that it reads
 abbrev pub debug_inputs : Option DebugTask → List (List ℕ)
-debug_inputs None = []
-debug_inputs (Some debug) = debug.commands ∷ option_to_list debug.symbols
+debug_inputs debug = option_map_or (λ debug. debug.commands ∷ option_to_list debug.symbols) debug []
 
 abbrev pub inputs_of : Task → List (List ℕ)
 inputs_of (Run run debug) = run.file ∷ debug_inputs debug ++ option_to_list run.script

@@ -1,6 +1,6 @@
 -- What the values on the command line mean: numbers, and paths (profile).
-use Rattle.std.specs.Prelude.{ℕ, List, Option, Some, None, option_and_then, option_map, ok_or, Result, Ok, Err}
-use Rattle.std.specs.Option.{option_transpose}
+use Rattle.std.specs.Prelude.{ℕ, List, Option, Some, option_and_then, option_map, ok_or, Result, Ok, Err}
+use Rattle.std.specs.Option.{option_map_or, option_transpose}
 use Rattle.std.specs.Result.{result_ok}
 use Rattle.uxn_limits.specs.declared.limits.TheConstants.{GREATEST_BUDGET, USUAL_BUDGET, MOST_ROUTINES}
 use Rattle.uxn_io_traits.specs.ByteList.{tight}
@@ -20,8 +20,7 @@ then_steps (Err fault) next = Err fault
 
 -- the greatest number of instructions of a vector, at least 1
 abbrev pub requested_budget : Option (List ℕ) → Option ℕ
-requested_budget None = Some USUAL_BUDGET
-requested_budget (Some word) = number_within 1 GREATEST_BUDGET word
+requested_budget word = option_map_or (number_within 1 GREATEST_BUDGET) word (Some USUAL_BUDGET)
 
 -- the count of a workload, at least 1
 abbrev pub requested_count : Option (List ℕ) → Option ℕ

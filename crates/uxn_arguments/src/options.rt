@@ -1,7 +1,6 @@
 //! The options of each command, and what each sets in the task that is requested.
 ghost use Rattle.std.specs.Prelude.{◌≡◌, ◌≤◌, IfOk, IfSome, option_map, option_and_then};
-ghost use Rattle.option_table.specs.Words.{choices_in};
-ghost use Rattle.option_table.specs.Parsing.{found_value};
+ghost use Rattle.option_table.specs.Parsing.{found_value, table_choices};
 ghost use Rattle.uxn_arguments.specs.Options.{choices_of, debug_task, debugger_of, run_task, requested_run};
 ghost use Rattle.uxn_arguments.specs.Options.{assemble_task, disassemble_task, requested_task, HasBudget};
 ghost use Rattle.uxn_arguments.specs.Values.{optional_path, requested_budget, requested_count, requested_path, required_path};
@@ -9,38 +8,44 @@ ghost use Rattle.uxn_arguments.specs.ReadsArguments.{ReadsArguments};
 
 use super::task::{AssembleTask, DebugTask, DisassembleTask, RunTask, Task};
 use super::words::{Command, WordFault, WordStop};
-use option_table::{Choice, Found};
+use option_table::{Choice, ChoiceKind, Found};
 use std::alloc::Global;
 use text_lines::number_within;
 use uxn_io_traits::{Bytes, Path};
 use uxn_limits::limits;
 
 /// How many options only `debug` has; those behind them are the options of a run.
-const DEBUG_ONLY: usize = 3;
+pub(crate) const DEBUG_ONLY: usize = 3;
 
 /// The options of `debug`, and behind its own those of `play`.
-static DEBUG: [Choice; 10] = [
-    Choice::Required("commands"),
-    Choice::Required("log"),
-    Choice::Optional("symbols"),
-    Choice::Switch("rom"),
-    Choice::Optional("budget"),
-    Choice::Optional("script"),
-    Choice::Optional("root"),
-    Choice::Optional("frames"),
-    Choice::Optional("samples"),
-    Choice::Optional("report"),
+pub(crate) const DEBUG: [Choice; 10] = [
+    ("commands", ChoiceKind::Required),
+    ("log", ChoiceKind::Required),
+    ("symbols", ChoiceKind::Optional),
+    ("rom", ChoiceKind::Switch),
+    ("budget", ChoiceKind::Optional),
+    ("script", ChoiceKind::Optional),
+    ("root", ChoiceKind::Optional),
+    ("frames", ChoiceKind::Optional),
+    ("samples", ChoiceKind::Optional),
+    ("report", ChoiceKind::Optional),
 ];
 
 /// The options of `asm`.
-static ASSEMBLE: [Choice; 3] = [
-    Choice::Required("out"),
-    Choice::Optional("symbols"),
-    Choice::Optional("listing"),
+pub(crate) const ASSEMBLE: [Choice; 3] = [
+    ("out", ChoiceKind::Required),
+    ("symbols", ChoiceKind::Optional),
+    ("listing", ChoiceKind::Optional),
 ];
 
 /// The options of `dis`.
-static DISASSEMBLE: [Choice; 1] = [Choice::Optional("symbols")];
+pub(crate) const DISASSEMBLE: [Choice; 1] = [("symbols", ChoiceKind::Optional)];
+
+static DEBUG_TABLE: [Choice; 10] = DEBUG;
+
+static ASSEMBLE_TABLE: [Choice; 3] = ASSEMBLE;
+
+static DISASSEMBLE_TABLE: [Choice; 1] = DISASSEMBLE;
 
 /// The name under which the command's own item stands, which no option has.
 const OPERAND: &str = "";
@@ -48,13 +53,13 @@ const OPERAND: &str = "";
 impl Command {
     /// Its options, in the order of its usage line.
     pub(crate) fn choices(self) -> &'static [Choice]
-        ensures { choices_in result.now ≡ choices_of self }
+        ensures { table_choices result.now ≡ choices_of self }
     {
         match self {
-            Command::Play => &DEBUG[DEBUG_ONLY..],
-            Command::Debug => DEBUG.as_slice(),
-            Command::Assemble => ASSEMBLE.as_slice(),
-            Command::Disassemble => DISASSEMBLE.as_slice(),
+            Command::Play => &DEBUG_TABLE[DEBUG_ONLY..],
+            Command::Debug => DEBUG_TABLE.as_slice(),
+            Command::Assemble => ASSEMBLE_TABLE.as_slice(),
+            Command::Disassemble => DISASSEMBLE_TABLE.as_slice(),
             Command::Generate | Command::Line => &[],
         }
     }

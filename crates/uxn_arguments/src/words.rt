@@ -1,7 +1,8 @@
 //! The words of the command line.
-ghost use Rattle.std.specs.Prelude.{◌≡◌, Some, IfOk, map, string_bytes};
+ghost use Rattle.std.specs.Prelude.{◌≡◌, Some, IfOk, find, map, option_copied, string_bytes};
+ghost use Rattle.std.specs.Str.{bytes_eq};
 ghost use Rattle.uxn_arguments.specs.Options.{HasBudget};
-ghost use Rattle.uxn_arguments.specs.Words.{command_of, named_task, task_of};
+ghost use Rattle.uxn_arguments.specs.Words.{command_of, command_task, task_of};
 ghost use Rattle.uxn_arguments.specs.ReadsArguments.{ReadsArguments};
 
 use super::task::Task;
@@ -56,31 +57,42 @@ impl From<AllocError> for WordStop {
     }
 }
 
+/// The commands by their names.
+pub(crate) const COMMANDS: [(&str, Command); 6] = [
+    ("play", Command::Play),
+    ("debug", Command::Debug),
+    ("asm", Command::Assemble),
+    ("dis", Command::Disassemble),
+    ("gen", Command::Generate),
+    ("line", Command::Line),
+];
+
+static COMMAND_TABLE: [(&str, Command); 6] = COMMANDS;
+
 /// The command of a name.
 fn command_named(name: &[u8]) -> Option<Command>
     ensures { result ≡ command_of name.now }
 {
-    if name == b"play".as_slice() {
-        Some(Command::Play)
-    } else if name == b"debug".as_slice() {
-        Some(Command::Debug)
-    } else if name == b"asm".as_slice() {
-        Some(Command::Assemble)
-    } else if name == b"dis".as_slice() {
-        Some(Command::Disassemble)
-    } else if name == b"gen".as_slice() {
-        Some(Command::Generate)
-    } else if name == b"line".as_slice() {
-        Some(Command::Line)
-    } else {
-        None
+    match row_named(COMMAND_TABLE.as_slice(), name) {
+        Some(row) => Some(row.1),
+        None => None,
     }
+}
+
+/// The row of a name.
+fn row_named<'a>(
+    rows: &'a [(&'static str, Command)],
+    name: &[u8],
+) -> Option<&'a (&'static str, Command)>
+    ensures { option_copied result ≡ find (λ row. bytes_eq row.0.now name.now) rows.now }
+{
+    rows.iter().find(|row| row.0.as_bytes() == name)
 }
 
 impl Command {
     /// What the words after the command's name ask for.
     fn read(self, alloc: Global, words: &[String]) -> Result<Task, WordStop>
-        ensures requested { ReadsArguments result (named_task (map string_bytes words.now) (Some self)) }
+        ensures requested { ReadsArguments result (command_task (map string_bytes words.now) self) }
         ensures budget { IfOk result HasBudget }
     {
         match option_table::read(alloc, self.choices(), words)? {

@@ -49,7 +49,7 @@ pub use Rattle.uxn_inquiry.specs.Inquires.{Inquires, Says}
 pub use Rattle.uxn_inquiry.specs.Leads.{Leads}
 pub use Rattle.uxn_inquiry.specs.Laws.{inquires-stop, inquires-more, inquires-last, inquires-as, leads-stop, leads-more, leads-said, gather-stop, gather-more, gather-end}
 pub use Rattle.uxn_task_files.specs.Accepted.{Machines, SourceFiles, output_texts}
-unfoldable pub use Rattle.uxn_task_files.specs.Accepted.{source_of, program_of, symbols_of, script_of, commands_of, setup_of, machine_of, run_of, files_of, disassembly_of, machines_in, machines_of, free_output}
+unfoldable pub use Rattle.uxn_task_files.specs.Accepted.{source_of, program_of, symbols_of, script_of, commands_of, setup_of, machine_of, run_of, files_of, disassembly_of, machines_of, free_output}
 pub use Rattle.uxn_task_files.specs.Accepted.{free_outputs, said_output}
 pub use Rattle.uxn_task_files.specs.Inputs.{long_refusal, kind_text}
 unfoldable pub use Rattle.uxn_task_files.specs.Inputs.{text_of, requested_text}

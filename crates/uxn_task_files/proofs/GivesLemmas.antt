@@ -2,9 +2,9 @@
 use Rattle.uxn_task_files.proofs.Common.{Err, List, Ok, Option, Some, None, Result, [], arith, map, ℕ, ◌∷◌, ◌++◌, ◌≡◌, ◌≤◌, common_steps, map-append}
 use Rattle.uxn_task_files.proofs.Common.{Bool, true, false, outputs_of, RunTask, DebugTask, AssembleTask, DisassembleTask, Assemble, SourceFiles}
 use Rattle.uxn_task_files.proofs.Common.{output_texts, Text, text_paths, Refusal, Label, Sourced, Inquiry, Answer, and_then, gather, free_outputs}
-use Rattle.uxn_task_files.proofs.Common.{SetupView, rules}
+use Rattle.uxn_task_files.proofs.Common.{rules}
 unfoldable use Rattle.uxn_task_files.proofs.Common.{text_of, requested_text, source_of, program_of, symbols_of, script_of, commands_of, setup_of}
-unfoldable use Rattle.uxn_task_files.proofs.Common.{machine_of, run_of, files_of, disassembly_of, machines_in, machines_of, free_output}
+unfoldable use Rattle.uxn_task_files.proofs.Common.{machine_of, run_of, files_of, disassembly_of, machines_of, free_output}
 unfoldable use Rattle.uxn_task_files.proofs.Common.{source_inquiry}
 use Rattle.tal_assembly.specs.declared.fault.SourceFault.{SourceFault}
 use Rattle.uxn_inquiry.specs.Along.{Always}
@@ -101,17 +101,13 @@ pub disassembly-asked : (task : DisassembleTask) → IsAsked (disassembly_of tas
 unfolding disassembly_of
 disassembly-asked task = asked-then _ _ _ (text-asked _ _) (λ rom. asked-then _ _ _ (symbols-asked _) (λ given. tt))
 
-machines-in-asked : (setup : SetupView) → IsAsked (machines_in setup)
-unfolding machines_in
-machines-in-asked = search (rules, asked-then, gather-asked, machine-asked, script-asked)
-
 setup-asked : (path : List ℕ) → IsAsked (setup_of path)
 unfolding setup_of
 setup-asked path = asked-then _ (text_of kinds.Setup path) _ (text-asked kinds.Setup path) (λ text. grind arith)
 
 pub machines-asked : (path : List ℕ) → IsAsked (machines_of path)
 unfolding machines_of
-machines-asked path = asked-then _ (setup_of path) machines_in (setup-asked path) machines-in-asked
+machines-asked = search (rules, asked-then, setup-asked, gather-asked, machine-asked, script-asked)
 
 -- the files that are written out of a source are the outputs of its task
 paths-output_texts : (task : AssembleTask) (source : List ℕ) → map (λ (t : Text). t.path) (output_texts task source) ≡ outputs_of (Assemble task)

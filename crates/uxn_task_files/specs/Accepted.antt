@@ -143,14 +143,12 @@ pub record Machines : Type 0 where
   pub roms : List (List ℕ)
   pub script : ScriptView
 
-unfoldable pub machines_in : SetupView → Inquiry (Result Machines Refusal)
-machines_in setup =
+unfoldable pub machines_of : List ℕ → Inquiry (Result Machines Refusal)
+machines_of path =
+    and_then (setup_of path) (λ setup.
     and_then (gather machine_of [] setup.sources) (λ roms.
     and_then (script_of setup.script) (λ script.
-    Answer (Ok (record { setup = setup; roms = roms; script = script }))))
-
-unfoldable pub machines_of : List ℕ → Inquiry (Result Machines Refusal)
-machines_of path = and_then (setup_of path) machines_in
+    Answer (Ok (record { setup = setup; roms = roms; script = script })))))
 
 -- the source that a task reads first
 abbrev pub first_source : Task → Option (List ℕ)

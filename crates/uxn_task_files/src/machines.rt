@@ -5,7 +5,7 @@ ghost use Rattle.uxn_memory.specs.Bytes.{largest_rom};
 ghost use Rattle.play_script.specs.Held.{bytes_in};
 ghost use Rattle.uxn_inquiry.specs.Inquires.{Inquires, Says};
 ghost use Rattle.uxn_inquiry.specs.Inquiry.{gather};
-ghost use Rattle.uxn_task_files.specs.Accepted.{machine_of, machines_in, machines_of, said_setup, setup_of};
+ghost use Rattle.uxn_task_files.specs.Accepted.{machine_of, machines_of, said_setup, setup_of};
 ghost use Rattle.uxn_task_files.specs.Held.{AreMachines, model_of_machines};
 
 use super::inputs::{InputKind, read_text};
@@ -78,24 +78,6 @@ fn accept_roms<T: Tree>(
     Ok(roms)
 }
 
-/// The files that an accepted setup names.
-fn accept_machines<T: Tree>(
-    alloc: Global,
-    setup: Setup,
-    tree: &mut T,
-) -> Result<LineInputs, Halt<Refusal>>
-    ensures reads { Inquires model_of_machines (machines_in setup) (T.state tree.old) (T.state tree.new) result }
-    ensures machines { IfOk result (λ inputs. AreMachines inputs.setup.sources inputs.roms.items) }
-{
-    let roms = accept_roms(alloc, setup.sources(), tree)?;
-    let script = accept_script(alloc, &setup.script(), tree)?;
-    Ok(LineInputs {
-        setup,
-        roms,
-        script,
-    })
-}
-
 /// The machines of the setup at a path.
 pub fn read_machines<T: Tree>(
     alloc: Global,
@@ -106,5 +88,11 @@ pub fn read_machines<T: Tree>(
     ensures machines { IfOk result (λ inputs. AreMachines inputs.setup.sources inputs.roms.items) }
 {
     let setup = accept_setup(alloc, path, tree)?;
-    accept_machines(alloc, setup, tree)
+    let roms = accept_roms(alloc, setup.sources(), tree)?;
+    let script = accept_script(alloc, &setup.script(), tree)?;
+    Ok(LineInputs {
+        setup,
+        roms,
+        script,
+    })
 }
