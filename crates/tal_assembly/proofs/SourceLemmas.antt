@@ -20,16 +20,16 @@ use Rattle.tal_include.specs.FlatWords.{HasItsWords}
 use Rattle.tal_include.specs.Splice.{has_includes, is_spliced, splice_inquiry}
 use Rattle.tal_include.proofs.FlatWordLemmas.{spliced_words}
 use Rattle.tal_assembly.specs.declared.fault.SourceFault.{SourceFault}
-use Rattle.tal_assembly.specs.Sources.{SourceView, sourced_of, source_inquiry, include_source_fault, met_fault, flat_by, own_by, HasOrigin}
+use Rattle.tal_assembly.specs.Sources.{SourceView, sourced_of, source_inquiry, include_source_fault, met_fault, flat_answer, own_answer, HasOrigin}
 use Rattle.tal_rom.specs.FaultWordLaws.{IsAt, fault_at_word}
 
 module _ (main source : List ℕ) (a : TreeState) where
   -- a source that is not spliced
   pub by-itself : (r : Result SourceView (Halt SourceFault)) → false ≡ is_spliced source
-      → Says sourced_of (own_by source (first_fault source)) r
+      → Says sourced_of (own_answer source) r
       → Inquires sourced_of (source_inquiry main source) a a r
   unfolding source_inquiry
-  by-itself r own says = let no = sym own in rw no (inquires-said sourced_of (own_by source (first_fault source)) a r says)
+  by-itself r own says = let no = sym own in rw no (inquires-said sourced_of (own_answer source) a r says)
 
   -- or is
   module _ (text : List ℕ) (b : TreeState) (is : is_spliced source ≡ true) (same : text ≡ source) where
@@ -37,7 +37,7 @@ module _ (main source : List ℕ) (a : TreeState) where
         → Inquires sourced_of (source_inquiry main source) a b (Err (halt_as (met_fault main) halt))
     unfolding source_inquiry
     flat-halted halt p =
-        rw is (inquires-stop (λ (flat : Flat). flat) sourced_of _ (λ flat. Answer (flat_by main flat (first_fault flat.text))) a b (halt_as (met_fault main) halt)
+        rw is (inquires-stop (λ (flat : Flat). flat) sourced_of _ (λ flat. Answer (flat_answer main flat)) a b (halt_as (met_fault main) halt)
         (inquires-as (met_fault main) (λ (flat : Flat). flat) (splice_inquiry main source) a b (Err halt)
         (subst (λ (t : List ℕ). Inquires (λ (flat : Flat). flat) (splice_inquiry main t) a b (Err halt)) same p)))
 
@@ -51,11 +51,11 @@ module _ (main source : List ℕ) (a : TreeState) where
 
     pub flat-answered : (flat : Flat) (r : Result SourceView (Halt SourceFault))
         → Inquires (λ (flat : Flat). flat) (splice_inquiry main text) a b (Ok flat)
-        → Says sourced_of (flat_by main flat (first_fault flat.text)) r
+        → Says sourced_of (flat_answer main flat) r
         → Inquires sourced_of (source_inquiry main source) a b r
     unfolding source_inquiry
     flat-answered flat r p says =
-        rw is (inquires-last (λ (flat : Flat). flat) sourced_of _ (λ flat. flat_by main flat (first_fault flat.text)) a b flat r
+        rw is (inquires-last (λ (flat : Flat). flat) sourced_of _ (λ flat. flat_answer main flat) a b flat r
         (inquires-as (met_fault main) (λ (flat : Flat). flat) (splice_inquiry main source) a b (Ok flat)
         (subst (λ (t : List ℕ). Inquires {E = IncludeFault} (λ (flat : Flat). flat) (splice_inquiry main t) a b (Ok flat)) same p)) says)
 

@@ -1,5 +1,6 @@
 -- A source with its includes: the text that is assembled, or the first fault (profile).
 use Rattle.std.specs.Prelude.{ℕ, List, [], Option, Some, None, Result, Ok, Err, if◌then◌else◌, unwrap_or, IfSome, IsSome}
+use Rattle.std.specs.Option.{option_map_or}
 use Rattle.std.specs.Str.{bytes_eq}
 use Rattle.uxn_io_traits.specs.ByteList.{tight}
 use Rattle.tal_words.specs.declared.fault.Fault.{Fault}
@@ -58,15 +59,15 @@ own_fault source fault = record {
 abbrev pub origin_in : List ℕ → Flat → ℕ → Origin
 origin_in main flat at = unwrap_or (origin_at flat at) (record { path = main; line = 1; column = 1 })
 
--- a source without includes, by its first fault
-abbrev pub own_by : List ℕ → Option Fault → Result Sourced SourceFault
-own_by source None = Ok (record { text = source; paths = [] })
-own_by source (Some fault) = Err (own_fault source fault)
+-- a source without includes, or its first fault
+abbrev pub own_answer : List ℕ → Result Sourced SourceFault
+own_answer source = option_map_or (λ fault. Err (own_fault source fault)) (first_fault source) (Ok (record { text = source; paths = [] }))
 
--- a flat text, by its first fault
-abbrev pub flat_by : List ℕ → Flat → Option Fault → Result Sourced SourceFault
-flat_by main flat None = Ok (record { text = flat.text; paths = flat.paths })
-flat_by main flat (Some fault) = Err (include_source_fault main (origin_in main flat fault.at) (Words fault.kind) (fault_text flat.text fault))
+-- a flat text, or its first fault, at the word of the file that has it
+abbrev pub flat_answer : List ℕ → Flat → Result Sourced SourceFault
+flat_answer main flat =
+    let met = λ (fault : Fault). include_source_fault main (origin_in main flat fault.at) (Words fault.kind) (fault_text flat.text fault) in
+    option_map_or (λ fault. Err (met fault)) (first_fault flat.text) (Ok (record { text = flat.text; paths = flat.paths }))
 
 -- a fault that is met where the source is spliced
 abbrev pub met_fault : List ℕ → IncludeFault → SourceFault
@@ -77,9 +78,8 @@ met_fault main fault = include_source_fault main fault.origin fault.kind fault.w
 unfoldable pub source_inquiry : List ℕ → List ℕ → Inquiry (Result Sourced SourceFault)
 source_inquiry main source =
     if is_spliced source
-    then and_then (refused_as (met_fault main) (splice_inquiry main source))
-    (λ flat. Answer (flat_by main flat (first_fault flat.text)))
-    else Answer (own_by source (first_fault source))
+    then and_then (refused_as (met_fault main) (splice_inquiry main source)) (λ flat. Answer (flat_answer main flat))
+    else Answer (own_answer source)
 
 -- the first fault of a flat text is at a word with an origin
 abbrev pub HasOrigin : Flat → Type 0

@@ -5,7 +5,7 @@ ghost use Rattle.uxn_inquiry.specs.Inquires.{Inquires, Says};
 ghost use Rattle.tal_words.specs.Faults.{fault_text};
 ghost use Rattle.tal_rom.specs.Assembly.{IsAssembled, first_fault};
 ghost use Rattle.tal_include.specs.declared.faults.IncludeKind.TheVariants.{Words};
-ghost use Rattle.tal_assembly.specs.Sources.{include_source_fault, flat_by, origin_in, own_by, source_inquiry, sourced_of};
+ghost use Rattle.tal_assembly.specs.Sources.{include_source_fault, flat_answer, origin_in, own_answer, source_inquiry, sourced_of};
 
 use crate::fault::{SourceFault, SourceStop};
 use std::alloc::{AllocError, Global};
@@ -86,7 +86,7 @@ pub fn read_source<T: Tree>(
 
 /// Assembles a source without include words.
 fn assemble_own(alloc: Global, source: Bytes) -> Result<AssembledSource, SourceStop>
-    ensures answer { Says sourced_of (own_by source.list (first_fault source.list)) result }
+    ensures answer { Says sourced_of (own_answer source.list) result }
     ensures assembled { IfOk result (λ made. IsAssembled made.text (Ok made.assembly)) }
 {
     match assemble(alloc, source.as_slice()) {
@@ -105,7 +105,7 @@ fn assemble_own(alloc: Global, source: Bytes) -> Result<AssembledSource, SourceS
 
 /// Assembles a flat text.
 fn assemble_flat(alloc: Global, main: &Path, flat: Spliced) -> Result<AssembledSource, SourceStop>
-    ensures answer { Says sourced_of (flat_by main.now flat (first_fault flat.text)) result }
+    ensures answer { Says sourced_of (flat_answer main.now flat) result }
     ensures assembled { IfOk result (λ made. IsAssembled made.text (Ok made.assembly)) }
 {
     match assemble(alloc, flat.text()) {

@@ -2,8 +2,8 @@
 use Rattle.std.proofs.Common.{◌≡◌, ℕ, zero, suc, ◌+◌, ◌≤◌, Bool, true, false, List, [], ◌∷◌, ◌++◌, length, map, refl, ap, sym, ◌∙◌, subst, arith}
 use Rattle.std.proofs.Common.{append_assoc, append-nil, length-append, Option, Some, None, Result, Ok, Err, IsSome, IfOk, inl, inr}
 use Rattle.std.specs.Prelude.{◌==◌}
-use Rattle.std.specs.List.{list_any, AllByRecursion}
-use Rattle.std.specs.Option.{option_map}
+use Rattle.std.specs.List.{find, list_any, AllByRecursion}
+use Rattle.std.specs.Option.{option_map, option_map_or}
 use Rattle.std.proofs.lemmas.Bool.{cases_Bool, eq-eqb}
 use Rattle.std.proofs.lemmas.Bool.Decides.{nat_tests}
 use Rattle.std.proofs.lemmas.List.{map-append}
@@ -21,9 +21,9 @@ use Rattle.tal_words.proofs.PlainTokens.{text_of_chunks, AreChunks}
 use Rattle.tal_include.specs.declared.faults.Origin.{Origin}
 use Rattle.tal_include.specs.declared.faults.IncludeFault.{IncludeFault}
 use Rattle.tal_include.specs.declared.spliced.Place.{Place}
-use Rattle.tal_include.specs.Flat.{Flat, empty_flat, flat_with_word, flat_with_path, place_in_list, origin_at, origin_of}
-use Rattle.tal_include.specs.Includes.{is_include, included_path, path_or_kind, bytes_or_kind}
-use Rattle.tal_include.specs.Splice.{Walk, found_at, words_by, is_long_with, at_plain_word, at_include, at_word, through_words, through_file}
+use Rattle.tal_include.specs.Flat.{Flat, empty_flat, flat_with_word, flat_with_path, origin_at}
+use Rattle.tal_include.specs.Includes.{is_include, included_path, path_or_kind, bytes_or_kind, words_fault}
+use Rattle.tal_include.specs.Splice.{Walk, found_at, is_long_with, at_plain_word, at_include, at_word, through_words, through_file}
 use Rattle.tal_include.specs.Splice.{has_includes, splice_inquiry, walk}
 use Rattle.tal_include.specs.FlatWords.{HasItsWords}
 use Rattle.tal_include.proofs.ChunkLemmas.{starts, IsSpoken, starts_of_tokens, words_are_tokens, chunks_faultless}
@@ -105,7 +105,9 @@ module _ (includes : Bool) where
         by (word_fault source) refl
       where
         by : (fault : Option Fault) → word_fault source ≡ fault
-            → IsFlatWalk (and_then (Answer (words_by path source fault)) (through_words deeper inner path source flat))
+            → IsFlatWalk
+            (and_then (Answer (option_map_or (λ found. Err (words_fault path source found)) fault (Ok (words_of source))))
+            (through_words deeper inner path source flat))
         by None none =
             always-through (IsFlat includes) (IsSoundWord source) (at_word deeper inner path source (length flat.paths))
             (λ word now sound holds. word_flat path source (length flat.paths) word now sound holds) (words_of source) flat (words_sound source none)
@@ -126,7 +128,7 @@ all_lines (text ∷ texts) all = let rest = all_lines texts all.1 in ((all.0.chu
 abbrev pub IsIn : ℕ → List ℕ → Type 0
 IsIn n ms = list_any (λ m. m == n) ms ≡ true
 
-place_there : (places : List Place) (at : ℕ) → IsIn at (map (λ (p : Place). p.at) places) → IsSome (place_in_list at places)
+place_there : (places : List Place) (at : ℕ) → IsIn at (map (λ (p : Place). p.at) places) → IsSome (find (λ (p : Place). p.at == at) places)
 place_there [] at is = is
 place_there (place ∷ places) at is = grind (arith, place_there places at)
 
@@ -141,7 +143,7 @@ all_placed : (flat : Flat) (prefix words : List Word) → map (λ (w : Word). w.
     → AllByRecursion (λ word. IsSome (origin_at flat word.span.start)) words
 all_placed flat prefix [] is = tt
 all_placed flat prefix (word ∷ words) is = (
-  some_mapped (origin_of flat) (place_in_list word.span.start flat.places)
+  some_mapped _ (find (λ (p : Place). p.at == word.span.start) flat.places)
       (place_there flat.places word.span.start
       (subst (λ (ns : List ℕ). IsIn word.span.start ns) (sym (map-append (λ (w : Word). w.span.start) prefix (word ∷ words)) ∙ is)
       (is_in word.span.start (map (λ (w : Word). w.span.start) prefix) (map (λ (w : Word). w.span.start) words)))),

@@ -1,15 +1,16 @@
 -- What the words of a source without a fault of words are.
-use Rattle.std.proofs.Common.{◌≡◌, ℕ, ◌+◌, ◌-◌, ◌<◌, Bool, true, false, not, List, [], ◌∷◌, ◌++◌, length, get_or, take, drop, refl, arith}
+use Rattle.std.proofs.Common.{◌≡◌, ℕ, ◌+◌, ◌<◌, Bool, true, false, not, List, [], ◌∷◌, ◌++◌, length, get_or, take, drop, refl, arith}
 use Rattle.std.proofs.Common.{Option, None}
-use Rattle.std.specs.Prelude.{if◌then◌else◌}
+use Rattle.std.specs.Prelude.{if◌then◌else◌, slice_get}
 use Rattle.std.specs.List.{prefix_len, AllByRecursion}
 use Rattle.std.proofs.lemmas.Grind.{common_steps}
 use Rattle.std.proofs.lemmas.List.{drop_more}
+use Rattle.std.specs.Option.{option_map, option_or}
 use Rattle.tal_words.specs.declared.span.Word.{Word}
 use Rattle.tal_words.specs.declared.fault.Fault.{Fault}
 use Rattle.tal_words.specs.declared.fault.FaultKind.{FaultKind}
 use Rattle.tal_words.specs.declared.fault.FaultKind.TheVariants.{OpenComment, LongWord, StrayParen}
-use Rattle.tal_words.specs.Faults.{when, least, phase_fault, fault_or}
+use Rattle.tal_words.specs.Faults.{when, phase_fault, fault_at}
 use Rattle.tal_words.specs.Order.{each, collected}
 use Rattle.tal_words.specs.Comments.{is_word, validated_token, word_given, words_of, word_fault}
 use Rattle.tal_words.specs.PlainTexts.{Chunk}
@@ -27,7 +28,7 @@ pub record IsSound (text : List ℕ) : Type 0 where
   pub chunk : IsChunk (line_of text)
   pub spoken : IsSpoken text
 
-pub no_kinds : (kinds : List FaultKind) (word : Word) (later : Option Fault) → fault_or word (least kinds) later ≡ None
+pub no_kinds : (kinds : List FaultKind) (word : Word) (later : Option Fault) → option_or (option_map (fault_at word) (slice_get kinds 0)) later ≡ None
     → (kinds ≡ []) × (later ≡ None)
 no_kinds [] word later is = (refl, is)
 no_kinds (kind ∷ kinds) word later is = cc is

@@ -1,5 +1,5 @@
 -- The flat text of a source: its words, each with a newline behind it, and where they stand in their files (profile).
-use Rattle.std.specs.Prelude.{ℕ, zero, suc, Bool, ◌==◌, Option}
+use Rattle.std.specs.Prelude.{ℕ, Bool, ◌==◌, Option}
 use Rattle.std.specs.Prelude.{List, [], ◌∷◌, ◌++◌, length, slice_index_or}
 use Rattle.std.specs.List.{find}
 use Rattle.std.specs.Option.{option_map}
@@ -33,8 +33,7 @@ flat_with_path path flat = record flat { paths = flat.paths ++ path ∷ [] }
 
 -- the main source is the file 0, and the first that was read the file 1
 abbrev pub path_of_file : List ℕ → List (List ℕ) → ℕ → List ℕ
-path_of_file main paths zero = main
-path_of_file main paths (suc file) = slice_index_or paths file main
+path_of_file main paths file = slice_index_or (main ∷ paths) file main
 
 -- the word that begins at an offset
 abbrev pub place_in_list : ℕ → List Place → Option Place

@@ -1,9 +1,10 @@
 -- Include words, the paths that they name, and faults of includes (profile).
 use Rattle.std.specs.Prelude.{ℕ, zero, suc, Bool, false, ◌==◌, nat_le, if◌then◌else◌, List, [], ◌∷◌, codes, drop, take}
 use Rattle.std.specs.Prelude.{Option, Some, None, Result, Ok, Err}
+use Rattle.std.specs.Option.{option_and_then, option_map_or}
+use Rattle.std.specs.Result.{result_ok}
 use Rattle.uxn_limits.specs.declared.limits.TheConstants.{WORD_LIMIT, INCLUDED_FILES}
 use Rattle.uxn_io_traits.specs.PathText.{path_of, parent_of, joined}
-use Rattle.uxn_io_traits.specs.declared.paths.PathFault.{PathFault}
 use Rattle.uxn_io_traits.specs.declared.trees.FileBytes.{FileBytes}
 use Rattle.uxn_io_traits.specs.declared.trees.FileBytes.TheVariants.{Found, TooLong, Missing as NoFile}
 use Rattle.tal_words.specs.declared.fault.Fault.{Fault}
@@ -29,15 +30,10 @@ is_include [] = false
 is_include (first ∷ []) = false
 is_include (first ∷ second ∷ rest) = first == 126
 
--- a path behind a folder, if there is one
-abbrev pub path_in : Option (List ℕ) → Result (List ℕ) PathFault → Option (List ℕ)
-path_in folder (Err fault) = None
-path_in None (Ok path) = Some path
-path_in (Some folder) (Ok path) = joined folder path
-
--- the path that an include word names, whatever file the word stands in: behind the folder of the main source
+-- the path that an include word names, whatever file the word stands in: behind the folder of the main source, if that has one
 abbrev pub included_path : List ℕ → List ℕ → Option (List ℕ)
-included_path main word = path_in (parent_of main) (path_of (drop 1 word))
+included_path main word =
+    option_and_then (λ path. option_map_or (λ folder. joined folder path) (parent_of main) (Some path)) (result_ok (path_of (drop 1 word)))
 
 -- the path of the file to be read, or what is wrong, where files may be included so many deep in this one, and so many were
 -- included before

@@ -1,11 +1,11 @@
 -- The walk through the words of a source and of the files that it includes: the first thing met on it is the fault (profile).
 use Rattle.std.specs.Prelude.{ℕ, zero, suc, ◌+◌, Bool, ◌&&◌, nat_lt, if◌then◌else◌, List, length, is_none}
-use Rattle.std.specs.Prelude.{Option, Some, None, Result, Ok, Err}
+use Rattle.std.specs.Prelude.{Result, Ok, Err}
 use Rattle.std.specs.List.{list_any}
+use Rattle.std.specs.Option.{option_map_or}
 use Rattle.uxn_limits.specs.declared.limits.TheConstants.{INCLUDE_DEPTH, TEXT_LIMIT}
 use Rattle.uxn_inquiry.specs.Inquiry.{Inquiry, Answer, and_then, through, result_as, file_of}
 use Rattle.tal_words.specs.declared.span.Word.{Word}
-use Rattle.tal_words.specs.declared.fault.Fault.{Fault}
 use Rattle.tal_words.specs.Source.{word_text}
 use Rattle.tal_words.specs.Comments.{words_of, word_fault}
 use Rattle.tal_include.specs.declared.faults.Origin.{Origin}
@@ -24,12 +24,8 @@ abbrev pub found_at : {A : Type 0} → Origin → List ℕ → Result A IncludeK
 found_at origin word found = result_as (λ kind. include_fault_at origin kind word) found
 
 -- the words of a file, or its first fault of words
-abbrev pub words_by : List ℕ → List ℕ → Option Fault → Result (List Word) IncludeFault
-words_by path source None = Ok (words_of source)
-words_by path source (Some fault) = Err (words_fault path source fault)
-
 abbrev pub words_in : List ℕ → List ℕ → Result (List Word) IncludeFault
-words_in path source = words_by path source (word_fault source)
+words_in path source = option_map_or (λ fault. Err (words_fault path source fault)) (word_fault source) (Ok (words_of source))
 
 -- the flat text of a source with includes is too long with this word and its newline
 abbrev pub is_long_with : Flat → List ℕ → Bool

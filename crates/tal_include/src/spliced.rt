@@ -1,7 +1,8 @@
 //! A source whose includes are replaced by the words of their files.
 
-ghost use Rattle.std.specs.Prelude.{◌≡◌, IsOk, OnOk, Bool};
-ghost use Rattle.tal_include.specs.Flat.{empty_flat, flat_with_word, flat_with_path, path_of_file, origin_at, origin_of, place_in_list};
+ghost use Rattle.std.specs.Prelude.{◌≡◌, ◌==◌, IsOk, OnOk, Bool};
+ghost use Rattle.std.specs.List.{find};
+ghost use Rattle.tal_include.specs.Flat.{empty_flat, flat_with_word, flat_with_path, path_of_file, origin_at};
 
 use crate::faults::Origin;
 use std::alloc::{AllocError, Global};
@@ -85,20 +86,13 @@ impl Spliced {
     pub fn origin(&self, at: u32) -> Option<Origin>
         ensures { result ≡ origin_at self.now at }
     {
-        match place_in_list(&self.places, at as usize) {
-            Some(place) => Some(self.origin_of(place)),
+        match place_at(&self.places, at as usize) {
+            Some(place) => Some(Origin {
+                path: self.path_of_file(place.file),
+                line: place.line,
+                column: place.column,
+            }),
             None => None,
-        }
-    }
-
-    /// Where a word stands.
-    fn origin_of(&self, place: Place) -> Origin
-        ensures { result ≡ origin_of self.now place }
-    {
-        Origin {
-            path: self.path_of_file(place.file),
-            line: place.line,
-            column: place.column,
         }
     }
 
@@ -159,8 +153,8 @@ impl Spliced {
 }
 
 /// The word that begins at an offset.
-fn place_in_list(places: &[Place], at: usize) -> Option<Place>
-    ensures { result ≡ place_in_list at places.now }
+fn place_at(places: &[Place], at: usize) -> Option<Place>
+    ensures { result ≡ find (λ place. place.at == at) places.now }
 {
     places.iter().copied().find(|place| place.at == at)
 }

@@ -1,11 +1,12 @@
 -- What a caller of `place` cites: each word of a layout without a fault.
+use Rattle.tal_labels.proofs.Common.{no_kind}
 use Rattle.tal_labels.proofs.Common.{◌≡◌, ℕ, zero, suc, ◌+◌, ◌<◌, ◌≤◌, inl, inr, true, false, List, [], ◌∷◌, ◌++◌, length, take, drop, get_or, None}
 use Rattle.tal_labels.proofs.Common.{map, length-map, ap, Ok, refl, arith, append_assoc, append-nil, is_some, ◌||◌, list_any, ltb, ltb-false, lt-ltb}
 use Rattle.tal_labels.proofs.Common.{cases_lt, take_more, Expanded, Form, form, size, PlacedWord, collected, expanded_text, address_after}
 use Rattle.tal_labels.proofs.Common.{defined_name, scope_after, labels_of, open_count, closing_distance, validated_shape, shape_fault, is_mark_form}
 use Rattle.tal_labels.proofs.Common.{is_defined, ends_above, validated_place, placing_fault, place_fault, lambda_address, placed_given, placed_of}
 use Rattle.tal_labels.proofs.Common.{ends_given, ends_of, LieApart, open_word, no_word}
-use Rattle.tal_labels.proofs.LayingLemmas.{IsWellPlaced, well_placed, ends_of-append, or_false, each-none, has_form, least-none}
+use Rattle.tal_labels.proofs.LayingLemmas.{IsWellPlaced, well_placed, ends_of-append, or_false, each-none, has_form}
 
 -- each of the words has a form
 abbrev pub HaveForms : List ℕ → List Expanded → Type 0
@@ -21,7 +22,7 @@ pub formed_at : (source : List ℕ) (words : List Expanded) → shape_fault sour
 unfolding shape_fault
 formed_at source words sound k within =
     let word = get_or words k no_word in
-    has_form _ (expanded_text source word) (open_count source (take k words)) (is_some (closing_distance source (drop (k + 1) words))) (least-none _ (each-none (validated_shape source) words sound k within))
+    has_form _ (expanded_text source word) (open_count source (take k words)) (is_some (closing_distance source (drop (k + 1) words))) (no_kind _ (each-none (validated_shape source) words sound k within))
 
 -- what a well placed word of a form is
 placed_well : (source : List ℕ) (words : List Expanded) → placing_fault source words ≡ None → (k : ℕ) → k < length words → (shape : Form) → form (expanded_text source (get_or words k no_word)) ≡ Ok shape

@@ -30,15 +30,16 @@ unfoldable pub use Rattle.tal_labels.specs.Shapes.{open_count, shape_fault, clos
 pub use Rattle.tal_labels.specs.declared.placed.PlacedWord.{PlacedWord}
 pub use Rattle.tal_labels.specs.declared.placer.Placer.{Placer}
 pub use Rattle.tal_words.proofs.OrderLemmas.{last_of-more, no_word, collected-more, get_or-each, length-each, each-end, each-step, each-more}
+pub use Rattle.tal_words.proofs.FirstLemmas.{no_kind}
 pub use Rattle.tal_words.proofs.PassLemmas.{none-at, fault-here, fault-later, fault-behind, fault-prefix, fault_or-none}
 pub use Rattle.tal_words.specs.Braces.{opens, closes, matching_after, one_if}
-pub use Rattle.tal_words.specs.Faults.{least, fault_at, fault_or, phase_fault, Validated, Gives, or_later}
-pub use Rattle.tal_words.specs.Forms.{size, rune_or_bare, encoded}
+pub use Rattle.tal_words.specs.Faults.{fault_at, phase_fault, Validated, Gives}
+pub use Rattle.tal_words.specs.Forms.{size, encoded}
 unfoldable pub use Rattle.tal_words.specs.Forms.{form}
 pub use Rattle.tal_words.specs.Labels.{address_named}
 pub use Rattle.tal_words.specs.Names.{scope_of, first_scope, full_name, slash, rune_of}
 unfoldable pub use Rattle.tal_words.specs.Names.{name_fault}
-pub use Rattle.tal_words.specs.Order.{each, last_of, collected, or_earlier}
+pub use Rattle.tal_words.specs.Order.{each, last_of, collected}
 pub use Rattle.tal_words.specs.Source.{bytes_at, expanded_text}
 pub use Rattle.tal_words.specs.declared.fault.Fault.{Fault}
 pub use Rattle.tal_words.specs.declared.fault.FaultKind.{FaultKind}

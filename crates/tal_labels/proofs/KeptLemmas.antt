@@ -1,7 +1,9 @@
 -- What a placer keeps, with one word more.
+use Rattle.std.specs.Prelude.{slice_get}
+use Rattle.std.specs.Option.{option_map}
 use Rattle.tal_labels.proofs.Common.{◌≡◌, ℕ, ◌+◌, ◌-◌, ◌^◌, ◌<◌, Bool, true, false, List, [], ◌∷◌, ◌++◌, length, Option, Some, None, Ok, cond, refl}
 use Rattle.tal_labels.proofs.Common.{sym, ◌∙◌, ap, arith, length-append, append-nil, inl, inr, take-append_seam, last_of-more, ltb, Expanded}
-use Rattle.tal_labels.proofs.Common.{FaultKind, Form, least, fault_at, fault_or, form, size, opens, closes, expanded_text, PlacedWord, next_address}
+use Rattle.tal_labels.proofs.Common.{FaultKind, Form, fault_at, form, size, opens, closes, expanded_text, PlacedWord, next_address}
 use Rattle.tal_labels.proofs.Common.{next_scope, label_of, address_after, defined_name, shape_kinds, is_mark_form, is_defined, place_kinds}
 use Rattle.tal_labels.proofs.Common.{validated_place, placed_of, shape_added, added_fault, open_word, open_ones, PlacerModel, PlacerIsMaintained}
 use Rattle.tal_labels.proofs.Common.{next_fault, closed_labels, closed_opener, openers_step}
@@ -27,13 +29,13 @@ module _ (source : List ℕ) (words : List Expanded) (word : Expanded) (kept : P
   place_read shape text next = grind (arith, so.top kept.address, so.labels, so.scope, so.address, next.read, next.formed)
 
   pub refused_shape : (text : List ℕ) (depth : ℕ) (kind : FaultKind) → depth ≡ length kept.openers → text ≡ expanded_text source word
-      → least (shape_kinds (form text) text depth true) ≡ Some kind → next_fault source words word ≡ Some (fault_at word.origin kind)
+      → slice_get (shape_kinds (form text) text depth true) 0 ≡ Some kind → next_fault source words word ≡ Some (fault_at word.origin kind)
   refused_shape text depth kind deep read e = rw (← shape_read text depth deep read, e) refl
 
   pub validated_next : (shape : Form) (text : List ℕ) (depth : ℕ) (name : Option (List ℕ)) (o : Option FaultKind) → IsNext source word shape text
-      → depth ≡ length kept.openers → name ≡ defined_name (Ok shape) (scope_text source kept.scope) text → least (shape_kinds (form text) text depth true) ≡ None
-      → least (place_kinds (is_defined kept.labels name) kept.address (size shape text) (is_mark_form shape) (ltb kept.address kept.top)) ≡ o
-      → next_fault source words word ≡ fault_or word.origin o None
+      → depth ≡ length kept.openers → name ≡ defined_name (Ok shape) (scope_text source kept.scope) text → slice_get (shape_kinds (form text) text depth true) 0 ≡ None
+      → slice_get (place_kinds (is_defined kept.labels name) kept.address (size shape text) (is_mark_form shape) (ltb kept.address kept.top)) 0 ≡ o
+      → next_fault source words word ≡ option_map (fault_at word.origin) o
   validated_next shape text depth name o next deep named e f =
       rw (← shape_read text depth deep next.read, e, ← place_read shape text next, ← named, f) refl
 

@@ -2,8 +2,10 @@
 use Rattle.tal_labels.proofs.Common.{◌≡◌, ℕ, zero, suc, ◌<◌, true, not, List, [], ◌∷◌, ◌++◌, length, take, drop, Option, Some, None, Result, Ok, refl}
 use Rattle.tal_labels.proofs.Common.{arith, length-append, ◌==◌, option_map_or, prefix_len, AllByRecursion, list_any-append, Expanded, FaultKind}
 use Rattle.tal_labels.proofs.Common.{Form, LabelDef, SubDef, expanded_text, first_scope, scope_of, full_name, slash, rune_of, name_fault, form}
-use Rattle.tal_labels.proofs.Common.{rune_or_bare, collected, or_earlier, label_name, defined_name, last_label, scope_after, label_at, labels_given}
+use Rattle.tal_labels.proofs.Common.{collected, label_name, defined_name, last_label, scope_after, label_at, labels_given}
 use Rattle.tal_labels.proofs.Common.{labels_of, HasNoBlank, IsNamed, is_mark_form}
+use Rattle.std.specs.Option.{option_or}
+use Rattle.tal_words.specs.Forms.{reference, bare}
 use Rattle.tal_words.specs.declared.form.Rune.{Rune}
 use Rattle.tal_words.specs.PlainTexts.{IsBlankFree}
 use Rattle.tal_words.proofs.BlankFree.{all_joined}
@@ -17,7 +19,7 @@ take_plain (suc n) [] plain = refl
 take_plain (suc n) (first ∷ rest) plain = grind (arith, take_plain n rest)
 
 -- a name of a label is not empty
-bare_no_label : (rune : Option Rune) (first : ℕ) → rune_or_bare rune [] (first ∷ []) ≡ Ok LabelDef → ⊥
+bare_no_label : (rune : Option Rune) (first : ℕ) → option_map_or (λ rune. reference rune []) rune (Ok (bare (first ∷ []))) ≡ Ok LabelDef → ⊥
 bare_no_label rune first e = grind arith
 
 label_named : (text : List ℕ) → form text ≡ Ok LabelDef → 0 < length (drop 1 text)
@@ -46,7 +48,7 @@ label_plain : (answer : Result Form FaultKind) (text : List ℕ) → IsBlankFree
 label_plain (Ok LabelDef) text plain = take_plain (prefix_len (λ byte. not (byte == slash)) (drop 1 text)) (drop 1 text) (drop_plain text plain)
 label_plain _ text plain = refl
 
-later_plain : (later earlier : Option (List ℕ)) → IsPlainScope later → IsPlainScope earlier → IsPlainScope (or_earlier later earlier)
+later_plain : (later earlier : Option (List ℕ)) → IsPlainScope later → IsPlainScope earlier → IsPlainScope (option_or later earlier)
 later_plain (Some name) earlier a b = a
 later_plain None earlier a b = b
 

@@ -1,20 +1,17 @@
+use Rattle.std.specs.Prelude.{slice_get}
 use Rattle.tal_labels.proofs.Common.{◌≡◌, ℕ, ◌+◌, ◌<◌, ◌≤◌, Bool, true, false, List, [], ◌∷◌, ◌++◌, length, None, Ok, cond, ◌||◌, refl, ◌∙◌, ap}
 use Rattle.tal_labels.proofs.Common.{arith, take, drop, get_or, Err, Result, FaultKind, shape_kinds, none-at, nat_tests, list_any, is_some, unwrap_or}
-use Rattle.tal_labels.proofs.Common.{ltb, list_any-append, Expanded, Form, LabelDef, Pad, least, Validated, phase_fault, form, size, each}
+use Rattle.tal_labels.proofs.Common.{ltb, list_any-append, Expanded, Form, LabelDef, Pad, Validated, phase_fault, form, size, each}
 use Rattle.tal_labels.proofs.Common.{expanded_text, pad_value, moves, moved_since_pad, address_after, defined_name, scope_after, labels_given}
 use Rattle.tal_labels.proofs.Common.{labels_of, place_kinds, ends_given, ends_of, next_address, next_scope, label_of, collected-more, last_of-more}
 use Rattle.tal_labels.proofs.Common.{no_word, get_or-each, length-each}
 
 -- where no word has a fault of a phase, a word has none
 pub each-none : (validate : List Expanded → Expanded → List Expanded → Validated) (words : List Expanded) → phase_fault (each validate [] words) ≡ None → (k : ℕ) → k < length words
-    → least (validate (take k words) (get_or words k no_word) (drop (k + 1) words)).kinds ≡ None
+    → slice_get (validate (take k words) (get_or words k no_word) (drop (k + 1) words)).kinds 0 ≡ None
 each-none validate words sound k within =
     let nothing : Validated = record { origin = record { span = record { start = 0; end = 0 }; line = 0; column = 0 }; kinds = [] } in
     rw (← get_or-each validate [] words k no_word nothing within) (none-at (each validate [] words) k nothing sound (omega (arith, length-each validate [] words)))
-
-pub least-none : (kinds : List FaultKind) → least kinds ≡ None → kinds ≡ []
-least-none [] e = refl
-least-none (kind ∷ kinds) e = cc
 
 -- a shape without a fault has a form
 pub has_form : (f : Result Form FaultKind) (text : List ℕ) (depth : ℕ) (closed : Bool) → shape_kinds f text depth closed ≡ [] → (shape : Form) × (f ≡ Ok shape)
@@ -32,7 +29,7 @@ pub record IsWellPlaced (twice : Bool) (place size : ℕ) (is_mark below : Bool)
   pub above : 0 < size → below ≡ false
   pub mark : is_mark ≡ true → place < 65536
 
-pub well_placed : (twice : Bool) (place size : ℕ) (is_mark below : Bool) → least (place_kinds twice place size is_mark below) ≡ None → IsWellPlaced twice place size is_mark below
+pub well_placed : (twice : Bool) (place size : ℕ) (is_mark below : Bool) → slice_get (place_kinds twice place size is_mark below) 0 ≡ None → IsWellPlaced twice place size is_mark below
 well_placed twice place size is_mark below e = grind (arith, nat_tests)
 
 module _ (source : List ℕ) where

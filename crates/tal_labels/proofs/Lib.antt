@@ -10,3 +10,4 @@ pub mod AddingLemmas
 pub mod KeptLemmas
 pub mod PlainLemmas
 pub mod LabelNames
+pub mod OrderLemmas

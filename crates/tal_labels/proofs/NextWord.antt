@@ -1,7 +1,8 @@
 -- The word that a placer gives next: what is known of it, and of the words before it.
+use Rattle.std.specs.Prelude.{slice_get}
 use Rattle.tal_labels.proofs.Common.{◌≡◌, ℕ, suc, ◌+◌, ◌<◌, ◌≤◌, inl, inr, Bool, true, false, not, ◌&&◌, List, [], ◌∷◌, ◌++◌, length, map}
 use Rattle.tal_labels.proofs.Common.{Some, None, Ok, Err, Result, cond, refl, sym, ◌∙◌, ap, arith, append_assoc, append-nil, length-append, is_some}
-use Rattle.tal_labels.proofs.Common.{AllByRecursion, list_any, and_parts, nat_tests, list_any-append, ltb, Expanded, FaultKind, Form, opens, least}
+use Rattle.tal_labels.proofs.Common.{AllByRecursion, list_any, and_parts, nat_tests, list_any-append, ltb, Expanded, FaultKind, Form, opens}
 use Rattle.tal_labels.proofs.Common.{form, size, address_named, each, collected, expanded_text, no_word, each-more, fault-behind, fault_or-none}
 use Rattle.tal_labels.proofs.Common.{PlacedWord, address_after, defined_name, labels_of, scope_after, is_mark_form, formed_size, is_defined}
 use Rattle.tal_labels.proofs.Common.{ends_given, ends_above, validated_place, placed_given, place_fault, shape_added, adding_kinds, validated_added}
@@ -103,13 +104,13 @@ module _ (source : List ℕ) (words : List Expanded) where
   prefix_sound : (word : Expanded) → added_fault source (words ++ word ∷ []) ≡ None → added_fault source words ≡ None
   prefix_sound word e = grind (arith, added-prefix source words word)
 
-  next_kinds : (word : Expanded) → added_fault source (words ++ word ∷ []) ≡ None → least (validated_place source words word []).kinds ≡ None
+  next_kinds : (word : Expanded) → added_fault source (words ++ word ∷ []) ≡ None → slice_get (validated_place source words word []).kinds 0 ≡ None
   unfolding added_fault
   next_kinds word e =
       let behind = fault-behind (each (validated_added source) [] words) (validated_added source words word [] ∷ []) (prefix_sound word e) in
       let last = rw (each-more (validated_added source) (λ b w a c. refl) [] words word, behind) at e in
-      let none = fault_or-none word.origin (least (adding_kinds source words word)) None last in
-      ap least (append-none (shape_added source words word) (validated_place source words word []).kinds none.0).1
+      let none = fault_or-none word.origin (slice_get (adding_kinds source words word) 0) None last in
+      ap (λ kinds. slice_get kinds 0) (append-none (shape_added source words word) (validated_place source words word []).kinds none.0).1
 
   given_parts : (b : Bool) (f : Result Form FaultKind) (placed : PlacedWord) → given_word source words placed.word b f ≡ Some placed
       → (b ≡ false) × (f ≡ Ok placed.form) × (open_word source words placed.word placed.form ≡ placed)

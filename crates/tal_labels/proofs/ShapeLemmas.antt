@@ -1,5 +1,6 @@
+use Rattle.std.specs.Prelude.{slice_get}
 use Rattle.tal_labels.proofs.Common.{◌≡◌, ℕ, ◌+◌, ◌<◌, ◌≤◌, Bool, List, [], length, take, drop, get_or, Option, Some, None, refl, sym, ◌∙◌, ap, arith}
-use Rattle.tal_labels.proofs.Common.{is_some, take_more, Expanded, FaultKind, least, fault_at, phase_fault, form, each, expanded_text, shape_kinds}
+use Rattle.tal_labels.proofs.Common.{is_some, take_more, Expanded, FaultKind, fault_at, phase_fault, form, each, expanded_text, shape_kinds}
 use Rattle.tal_labels.proofs.Common.{open_after, open_count, closer_of, closers_of, validated_shape, shape_fault, fold-append, fault-here}
 use Rattle.tal_labels.proofs.Common.{fault-later, each-end, get_or-each, length-each, no_word}
 
@@ -28,14 +29,14 @@ module _ (source : List ℕ) (words : List Expanded) (k : ℕ) (text : List ℕ)
   unfolding closers_of
   read_kinds = rw (shut, all, get_or-each (closer_of source) [] words k no_word e within, read, so.depth) (grind arith)
 
-  pub next_shaped : (next : ℕ) → least (shape_kinds (form text) text depth closed) ≡ None → next ≡ open_after depth text → next ≤ depth + 1 → IsShapedSo source words (k + 1) next
+  pub next_shaped : (next : ℕ) → slice_get (shape_kinds (form text) text depth closed) 0 ≡ None → next ≡ open_after depth text → next ≤ depth + 1 → IsShapedSo source words (k + 1) next
   next_shaped next none deeper bound = record {
     sound = fault-later (validated_shape source) words k no_word within (rw read_kinds at none) ∙ so.sound;
     depth = rw (deeper, read, so.depth) (sym (open_count-more source words k no_word within));
     small = omega (arith, so.small);
   }
 
-  pub faulty_shape : (kind : FaultKind) → least (shape_kinds (form text) text depth closed) ≡ Some kind → shape_fault source words ≡ Some (fault_at (get_or words k no_word).origin kind)
+  pub faulty_shape : (kind : FaultKind) → slice_get (shape_kinds (form text) text depth closed) 0 ≡ Some kind → shape_fault source words ≡ Some (fault_at (get_or words k no_word).origin kind)
   faulty_shape kind some = sym so.sound ∙ fault-here (validated_shape source) words k no_word within kind (rw read_kinds at some)
 
 pub all_shaped : (source : List ℕ) (words : List Expanded) (k : ℕ) (depth : ℕ) → k ≡ length words → IsShapedSo source words k depth → shape_fault source words ≡ None

@@ -1,5 +1,5 @@
 -- What the steps of the placing answer.
-use Rattle.std.specs.Prelude.{◌≡◌, ℕ, ◌+◌, Bool, true, false, List, [], ◌∷◌, drop, Option, Some, None, Result, Ok, Err}
+use Rattle.std.specs.Prelude.{◌≡◌, ℕ, ◌+◌, Bool, true, false, List, [], ◌∷◌, drop, Option, Some, None, Result, Ok, Err, slice_get}
 use Rattle.tal_words.specs.declared.fault.FaultKind.{FaultKind}
 use Rattle.tal_words.specs.declared.fault.Fault.{Fault}
 use Rattle.tal_words.specs.declared.fault.AsmStop.{AsmStop}
@@ -7,16 +7,15 @@ use Rattle.tal_words.specs.declared.fault.AsmStop.TheVariants.{Refused, NoMemory
 use Rattle.tal_words.specs.declared.form.Form.{Form}
 use Rattle.tal_words.specs.declared.form.Form.TheVariants.{Pad, LabelDef}
 use Rattle.tal_words.specs.declared.name.Label.{Label}
-use Rattle.tal_words.specs.Faults.{least}
 use Rattle.tal_words.specs.Forms.{form}
 use Rattle.tal_words.specs.Names.{scope_of}
 use Rattle.tal_labels.specs.Places.{form_moves}
 use Rattle.tal_labels.specs.Shapes.{shape_kinds}
 
--- a word whose shape has no fault has its form, and else the fault of least number is answered
+-- a word whose shape has no fault has its form, and else the first fault of its shape is answered
 abbrev pub IsShape : List ℕ → ℕ → Bool → Result Form FaultKind → Type 0
-IsShape text depth is_closed (Ok shape) = (form text ≡ Ok shape) × (least (shape_kinds (form text) text depth is_closed) ≡ None)
-IsShape text depth is_closed (Err kind) = least (shape_kinds (form text) text depth is_closed) ≡ Some kind
+IsShape text depth is_closed (Ok shape) = (form text ≡ Ok shape) × (slice_get (shape_kinds (form text) text depth is_closed) 0 ≡ None)
+IsShape text depth is_closed (Err kind) = slice_get (shape_kinds (form text) text depth is_closed) 0 ≡ Some kind
 
 -- a search finds no fault, or the first, unless memory runs out
 abbrev pub FindsNone : Result (Unit {0}) AsmStop → Option Fault → Type 0

@@ -1,13 +1,14 @@
 -- What a placer represents.
-use Rattle.std.specs.Prelude.{◌≡◌, ◌≤◌, ℕ, ◌+◌, ◌*◌, ◌-◌, nat_lt, Bool, true, false, List, []}
+use Rattle.std.specs.Prelude.{◌≡◌, ◌≤◌, ℕ, ◌+◌, ◌*◌, ◌-◌, nat_lt, Bool, true, false, List, [], slice_get}
 use Rattle.std.specs.Prelude.{◌∷◌, ◌++◌, length, take}
 use Rattle.std.specs.Prelude.{zero, suc, Option, Some, None, is_some, Result, Ok, Err}
+use Rattle.std.specs.Option.{option_map, option_or}
 use Rattle.tal_words.specs.declared.span.Expanded.{Expanded}
 use Rattle.tal_words.specs.declared.name.Label.{Label}
 use Rattle.tal_words.specs.declared.fault.Fault.{Fault}
 use Rattle.tal_words.specs.declared.fault.AsmStop.{AsmStop}
 use Rattle.tal_words.specs.declared.fault.AsmStop.TheVariants.{Refused, NoMemory}
-use Rattle.tal_words.specs.Faults.{least, fault_or, or_later}
+use Rattle.tal_words.specs.Faults.{fault_at}
 use Rattle.tal_words.specs.declared.form.Form.TheVariants.{Refer}
 use Rattle.tal_words.specs.declared.form.Rune.{Rune}
 use Rattle.tal_words.specs.Braces.{opens}
@@ -62,8 +63,8 @@ pub record WereAdded (source : List ℕ) (words : List Expanded) (placer : Place
 -- the fault of a word behind others: of its shape, or else of its place
 abbrev pub next_fault : List ℕ → List Expanded → Expanded → Option Fault
 next_fault source words word =
-    or_later (fault_or word.origin (least (shape_added source words word)) None)
-    (fault_or word.origin (least (validated_place source words word []).kinds) None)
+    option_or (option_map (fault_at word.origin) (slice_get (shape_added source words word) 0))
+    (option_map (fault_at word.origin) (slice_get (validated_place source words word []).kinds 0))
 
 -- what one word more does: it is placed, and what is kept becomes that of all, or it is refused with its fault, or memory runs out
 abbrev pub PlacesNext : List ℕ → List Expanded → Expanded → Result PlacedWord AsmStop → PlacerModel → Type 0

@@ -2,7 +2,7 @@
 use Rattle.std.specs.Prelude.{◌≡◌, ◌<◌, ◌≤◌, length, slice_index_or, ℕ, ◌+◌, Bool, true, false, ◌&&◌}
 use Rattle.std.specs.Prelude.{◌||◌, nat_lt, nat_le, List, [], ◌∷◌, ◌++◌, take, Option, Some, None, Result, Ok, Err}
 use Rattle.std.specs.Prelude.{if◌then◌else◌}
-use Rattle.std.specs.Option.{option_map}
+use Rattle.std.specs.Option.{option_map, option_or}
 use Rattle.std.specs.List.{list_any}
 use Rattle.std.specs.Str.{bytes_eq}
 use Rattle.tal_words.specs.declared.span.Expanded.{Expanded}
@@ -12,7 +12,7 @@ use Rattle.tal_words.specs.declared.fault.FaultKind.{FaultKind}
 use Rattle.tal_words.specs.declared.fault.FaultKind.TheVariants.{LabelTwice, ZeroPage, Outside, Rewind}
 use Rattle.tal_words.specs.declared.form.Form.{Form}
 use Rattle.tal_words.specs.declared.form.Form.TheVariants.{LabelDef, SubDef, LambdaEnd}
-use Rattle.tal_words.specs.Faults.{Validated, when, phase_fault, or_later}
+use Rattle.tal_words.specs.Faults.{Validated, when, phase_fault}
 use Rattle.tal_words.specs.Forms.{form, size}
 use Rattle.tal_words.specs.Braces.{opens}
 use Rattle.tal_labels.specs.declared.placed.PlacedWord.{PlacedWord}
@@ -86,7 +86,7 @@ module _ (source : List ℕ) where
 
   -- the first fault of shapes and places
   unfoldable pub place_fault : List Expanded → Option Fault
-  place_fault words = or_later (shape_fault source words) (placing_fault words)
+  place_fault words = option_or (shape_fault source words) (placing_fault words)
 
   -- the place of the `}` that closes the lambda of an opener
   abbrev pub lambda_address : List Expanded → Expanded → List Expanded → Option ℕ

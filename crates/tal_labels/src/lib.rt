@@ -17,4 +17,4 @@ pub use placer::{Placer, one_word_more_is_placed_behind};
 pub use placing::place;
 pub use plain::plain_words_stand_one_behind_the_other;
 pub use scope::Scope;
-pub use shapes::strays_match_no_opener;
+pub use shapes::{faults_of_places_are_in_order, strays_match_no_opener};

@@ -1,13 +1,12 @@
 //! Words that are placed one by one.
 
-ghost use Rattle.std.specs.Prelude.{◌≡◌, ◌<◌, ◌^◌, ◌++◌, ◌∷◌, [], ℕ, List, None, Some, Ok, length, nat_lt, is_some, true, false};
+ghost use Rattle.std.specs.Prelude.{◌≡◌, ◌<◌, ◌^◌, ◌++◌, ◌∷◌, [], ℕ, List, None, Some, Ok, length, nat_lt, is_some, true, false, slice_get};
 ghost use Rattle.std.specs.Prelude.{IfOk, IfSome, OnOk, OnErr, OnSome};
 ghost use Rattle.std.specs.Prelude.{◌+◌, ◌-◌, ◌≤◌, ◌&&◌, ◌==◌, not, if◌then◌else◌};
 ghost use Rattle.std.specs.Option.{option_map};
 ghost use Rattle.std.specs.Vec.{vec_len, vec_capacity};
 ghost use Rattle.uxn_limits.specs.declared.addresses.TheConstants.{MEMORY_END};
 ghost use Rattle.tal_words.specs.Braces.{opens as opens_brace, closes as closes_brace};
-ghost use Rattle.tal_words.specs.Faults.{least};
 ghost use Rattle.tal_words.specs.Forms.{size as size_of, form as form_of_text};
 ghost use Rattle.tal_words.specs.Source.{expanded_text};
 ghost use Rattle.tal_words.specs.declared.span.Expanded.{Expanded as ExpandedWord};
@@ -184,8 +183,8 @@ impl Placer {
 
 /// What is wrong with the address of a word of this form and text that comes next and defines this name.
 fn kind_at(placer: &Placer, form: Form, text: &[u8], name: &Option<Vec<u8>>) -> Option<FaultKind>
-    ensures { result ≡ least (place_kinds (is_among placer.now.labels (option_map (λ bytes. bytes.items) name.now))
-        placer.now.address (size_of form text.now) (is_mark form) (nat_lt placer.now.address placer.now.top)) }
+    ensures { result ≡ slice_get (place_kinds (is_among placer.now.labels (option_map (λ bytes. bytes.items) name.now))
+        placer.now.address (size_of form text.now) (is_mark form) (nat_lt placer.now.address placer.now.top)) 0 }
 {
     placing_kind(
         is_defined(&placer.labels, name),

@@ -1,8 +1,8 @@
 //! Where words lie, and what is wrong with their addresses.
 
-ghost use Rattle.std.specs.Prelude.{◌≡◌, ◌+◌, ◌-◌, ◌<◌, ◌≤◌, ◌^◌, length, nat_lt, Ok, None, IfOk, if◌then◌else◌};
-ghost use Rattle.tal_words.specs.Faults.{Gives, least};
-ghost use Rattle.tal_words.specs.Forms.{size, reference_size as size_of_reference};
+ghost use Rattle.std.specs.Prelude.{◌≡◌, ◌+◌, ◌-◌, ◌<◌, ◌≤◌, ◌^◌, length, nat_lt, Ok, None, IfOk, if◌then◌else◌, slice_get};
+ghost use Rattle.tal_words.specs.Faults.{Gives};
+ghost use Rattle.tal_words.specs.Forms.{size, encoded_reference};
 ghost use Rattle.tal_labels.specs.Answers.{next_address};
 ghost use Rattle.uxn_limits.specs.declared.addresses.TheConstants.{MEMORY_END};
 ghost use Rattle.tal_labels.specs.Placing.{place_fault, layout_of, place_kinds, is_mark_form, LieApart};
@@ -35,7 +35,7 @@ pub fn size(form: Form, text: &[u8]) -> usize
 
 /// The number of bytes of a reference.
 fn reference_size(rune: Rune) -> usize
-    ensures { result ≡ size_of_reference rune }
+    ensures { result ≡ length (encoded_reference rune 0 0) }
 {
     match rune {
         Rune::RawRel | Rune::RawZero => 1,
@@ -72,7 +72,7 @@ pub fn placing_kind(
     is_mark: bool,
     below: bool,
 ) -> Option<FaultKind>
-    ensures { result ≡ least (place_kinds twice address length is_mark below) }
+    ensures { result ≡ slice_get (place_kinds twice address length is_mark below) 0 }
 {
     if twice {
         return Some(FaultKind::LabelTwice);

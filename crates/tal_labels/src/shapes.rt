@@ -2,7 +2,9 @@
 
 ghost use Rattle.std.specs.Prelude.{◌≡◌, ◌==◌, not, true, List, ℕ, Ok, ◌+◌, ◌<◌, ◌≤◌, ◌^◌};
 ghost use Rattle.tal_words.specs.Source.{expanded_text};
-ghost use Rattle.tal_labels.specs.Shapes.{closers_of, shape_fault, open_after, open_count, closes_one_of};
+ghost use Rattle.tal_labels.specs.Shapes.{closers_of, shape_fault, open_after, open_count, closes_one_of, validated_shape};
+ghost use Rattle.tal_labels.specs.Placing.{validated_place};
+ghost use Rattle.tal_words.specs.FirstFault.{are_in_order};
 ghost use Rattle.tal_labels.specs.Answers.{IsShape, FindsNone};
 ghost use Rattle.tal_words.specs.declared.span.Expanded.{Expanded as ExpandedWord};
 ghost use Rattle.tal_words.specs.Braces.{closes as closes_brace};
@@ -65,4 +67,13 @@ pub fn shape_of(text: &[u8], depth: usize, is_closed: bool) -> Result<Form, Faul
 pub fn strays_match_no_opener()
     ensures { (source : List ℕ) (before : List ExpandedWord) (word : ExpandedWord) → closes_brace (expanded_text source word) ≡ true
         → (open_count source before == 0) ≡ not (closes_one_of source before word) }
+{}
+
+/// What is wrong with a word's shape, or with its place, stands in the order of its kinds, so that the first is the least.
+#[tactic(auto, using(crate::proofs::OrderLemmas::shape_in_order, crate::proofs::OrderLemmas::place_in_order))]
+pub fn faults_of_places_are_in_order()
+    ensures shapes { (source : List ℕ) (before after : List ExpandedWord) (word : ExpandedWord)
+        → are_in_order (validated_shape source before word after).kinds ≡ true }
+    ensures places { (source : List ℕ) (before after : List ExpandedWord) (word : ExpandedWord)
+        → are_in_order (validated_place source before word after).kinds ≡ true }
 {}

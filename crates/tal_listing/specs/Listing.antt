@@ -29,13 +29,9 @@ word_line source rom placed =
     hex_of_short placed.address ++ spaced_bytes (memory_bytes rom placed.address placed.size)
     ++ codes "  " ++ position_text placed.word.origin ++ 32 ∷ bytes_at source placed.word.text
 
--- the words that have bytes
-abbrev pub words_with_bytes : List PlacedWord → List PlacedWord
-words_with_bytes words = filter (λ placed. nat_lt 0 placed.size) words
-
 -- the listing of an assembly of a source: a line for each word that has bytes, in order
 unfoldable pub listing_of : List ℕ → Program → List ℕ
-listing_of source program = text_of_lines (map (word_line source program.rom) (words_with_bytes program.places))
+listing_of source program = text_of_lines (map (word_line source program.rom) (filter (λ placed. nat_lt 0 placed.size) program.places))
 
 -- each word of a source has in memory, as its ROM has it, the bytes that it represents
 pub record HoldsItsWords (source : List ℕ) : Type 0 where

@@ -22,7 +22,7 @@ unfoldable pub use Rattle.tal_macros.specs.Steps.{visits_before_fault}
 pub use Rattle.tal_macros.specs.declared.body.Body.{Body}
 pub use Rattle.tal_macros.specs.declared.pass.Pass.{Pass}
 unfoldable pub use Rattle.tal_words.specs.Comments.{words_of}
-pub use Rattle.tal_words.specs.Faults.{Validated, least, fault_at, when, phase_fault}
+pub use Rattle.tal_words.specs.Faults.{Validated, fault_at, when, phase_fault}
 unfoldable pub use Rattle.tal_words.specs.Names.{name_fault}
 pub use Rattle.tal_words.specs.Order.{collected}
 pub use Rattle.tal_words.specs.PlainTexts.{IsBlankFree, IsPlainWord}

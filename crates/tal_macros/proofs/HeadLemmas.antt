@@ -1,22 +1,12 @@
 -- The faults of a head, and how the expansion goes on behind it.
-use Rattle.tal_macros.proofs.Common.{◌≡◌, ℕ, zero, suc, ◌+◌, ◌-◌, ◌<◌, Bool, true, List, [], ◌∷◌, ◌++◌, length, take, drop, Option, Some, None, refl}
-use Rattle.tal_macros.proofs.Common.{ap, sym, ◌∙◌, arith, if◌then◌else◌, find, option_to_list, drop-drop, length-take, length-drop, Word, FaultKind}
-use Rattle.tal_macros.proofs.Common.{when, least, fault_at, name_fault, word_text, Body, Macro, Head, body_after, head_faults, head_length, parts_from}
+use Rattle.std.specs.Prelude.{slice_get}
+use Rattle.tal_macros.proofs.Common.{◌≡◌, ℕ, zero, suc, ◌+◌, ◌-◌, ◌<◌, true, List, [], ◌∷◌, ◌++◌, length, take, drop, Option, Some, None, refl}
+use Rattle.tal_macros.proofs.Common.{ap, sym, ◌∙◌, arith, find, drop-drop, length-take, length-drop, Word, FaultKind}
+use Rattle.tal_macros.proofs.Common.{fault_at, word_text, Body, Macro, Head, body_after, head_faults, head_length, parts_from}
 use Rattle.tal_macros.proofs.Common.{body_words, word_at, Continues, RefusesInSteps, rest, is_head, IsBody}
-use Rattle.tal_words.specs.declared.fault.FaultKind.TheVariants.{BadName, MacroTwice, MacroBody}
+use Rattle.tal_words.specs.declared.fault.FaultKind.TheVariants.{MacroBody}
 use Rattle.tal_macros.proofs.Known.{drop-word}
 use Rattle.tal_macros.proofs.PassLemmas.{continues-along, refuses-at}
-
--- a fault of the name is the least of a head
-least-bad : (test : Bool) (kind : FaultKind) (twice unclosed : Bool) → (if test then Some BadName else None) ≡ Some kind
-    → least (option_to_list (if test then Some BadName else None) ++ when twice MacroTwice ++ when unclosed MacroBody) ≡ Some kind
-least-bad test kind twice unclosed named = grind arith
-
-pub least_name : (name : List ℕ) (kind : FaultKind) (twice unclosed : Bool) → name_fault name ≡ Some kind
-    → least (option_to_list (name_fault name) ++ when twice MacroTwice ++ when unclosed MacroBody) ≡ Some kind
-unfolding name_fault
-least_name [] kind twice unclosed named = grind arith
-least_name (first ∷ more) kind twice unclosed named = least-bad _ kind twice unclosed named
 
 module _ (source : List ℕ) (known : List Macro) (count : ℕ) where
   -- the words of a body and its braces, where none of them begins a head, and where one does
@@ -45,7 +35,7 @@ module _ (source : List ℕ) (words : List Word) (at : ℕ) (known : List Macro)
   head-parts = rw (drop-word words at within, head) refl
 
   -- a head with a fault
-  pub head-refuses : (kind : FaultKind) → least (head_faults source word known (body_after source next)) ≡ Some kind → (count : ℕ)
+  pub head-refuses : (kind : FaultKind) → slice_get (head_faults source word known (body_after source next)) 0 ≡ Some kind → (count : ℕ)
       → RefusesInSteps (rest source known count (parts_from source 0 (drop at words))) (fault_at word kind)
   unfolding rest
   head-refuses kind some count =
@@ -66,7 +56,7 @@ module _ (source : List ℕ) (words : List Word) (at : ℕ) (known : List Macro)
         let size : length (body_words words body) + 2 ≡ inside =
         omega (arith, is_body.from, is_body.ordered, is_body.within, length-take (body.to - body.from) (drop body.from words), length-drop body.from words) in
         continues-along (record { origin = word; kinds = head_faults source word known (Some (body_words words body)) }) None _ _
-        (ap (rest source known count) head-parts ∙ rw (is_body.closed, size) refl) (ap least faultless)
+        (ap (rest source known count) head-parts ∙ rw (is_body.closed, size) refl) (ap (λ kinds. slice_get kinds 0) faultless)
 
     pub head-continues : nested ≡ None → Continues (rest source known count (parts_from source 0 (drop at words))) (rest source after count (parts_from source 0 (drop (body.to + 1) words))) []
     head-continues none =

@@ -8,3 +8,4 @@ pub mod Closing
 pub mod Known
 pub mod PlainLemmas
 pub mod BlankLemmas
+pub mod OrderLemmas

@@ -1,18 +1,19 @@
 -- One step of a pass.
+use Rattle.std.specs.Prelude.{slice_get}
 use Rattle.tal_macros.proofs.Common.{◌≡◌, ℕ, zero, suc, ◌+◌, ◌-◌, ◌<◌, ◌≤◌, true, false, List, [], ◌∷◌, ◌++◌, length, drop, Option, Some, None}
 use Rattle.tal_macros.proofs.Common.{is_some, refl, ap, arith, append_assoc, append-nil, length-append, unwrap_or, flat_map, option_to_list, drop_all}
-use Rattle.tal_macros.proofs.Common.{Word, FaultKind, begins, word_text, Validated, least, fault_at, Body, MACRO_DEPTH, Macro, Visited, body_named}
+use Rattle.tal_macros.proofs.Common.{Word, FaultKind, begins, word_text, Validated, fault_at, Body, MACRO_DEPTH, Macro, Visited, body_named}
 use Rattle.tal_macros.proofs.Common.{parts_from, visit_kinds, visited, visits, body_words, word_at, ExpansionStep, reached, Continues, RefusesInSteps}
 use Rattle.tal_macros.proofs.Common.{fault_of, rest, open_visits, steps_from}
 use Rattle.tal_macros.proofs.Known.{drop-word}
 
 -- steps that begin with one that has no fault, or with one that has
 pub continues-along : (validated : Validated) (visit : Option Visited) (old new : List ExpansionStep) → old ≡ record { validated = validated; visit = visit } ∷ new
-    → least validated.kinds ≡ None → Continues old new (option_to_list visit)
+    → slice_get validated.kinds 0 ≡ None → Continues old new (option_to_list visit)
 continues-along validated visit old new parts none = record { visits = rw (parts, none) refl; faults = rw (parts, none) refl }
 
 pub refuses-at : (validated : Validated) (visit : Option Visited) (old new : List ExpansionStep) (kind : FaultKind) → old ≡ record { validated = validated; visit = visit } ∷ new
-    → least validated.kinds ≡ Some kind → RefusesInSteps old (fault_at validated.origin kind)
+    → slice_get validated.kinds 0 ≡ Some kind → RefusesInSteps old (fault_at validated.origin kind)
 refuses-at validated visit old new kind parts some = record { visits = rw (parts, some) refl; faulty = rw (parts, some) refl }
 
 pub continues-same : (old new : List ExpansionStep) → old ≡ new → Continues old new []

@@ -88,9 +88,8 @@ module _ (source : List ℕ) where
 
   -- the macro that a part defines
   abbrev pub macro_given : Part → List Macro
-  macro_given (Plain word) = []
   macro_given (Head word body) = map (λ words. record { name = drop 1 (word_text source word); body = words }) (option_to_list body)
-  macro_given (Inside word) = []
+  macro_given _ = []
 
   -- the macros that are known at a word: those of the heads before it
   unfoldable pub known_at : List Part → List Macro
@@ -111,8 +110,7 @@ module _ (source : List ℕ) where
   -- the words visited for a part, by the parts before it
   abbrev pub visits_given : List Part → Part → List Part → List Visited
   visits_given before (Plain word) after = visits (known_at before) word MACRO_DEPTH word
-  visits_given before (Head word body) after = []
-  visits_given before (Inside word) after = []
+  visits_given before _ after = []
 
   -- the visit list
   unfoldable pub visit_list : List Part → List Visited

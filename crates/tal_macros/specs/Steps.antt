@@ -1,12 +1,12 @@
 -- The expansion word by word: which words stand before its first fault, and what an Expander gives of them.
-use Rattle.std.specs.Prelude.{◌≡◌, ℕ, ◌+◌, if◌then◌else◌, List, [], ◌∷◌, ◌++◌, length, map, take, drop}
+use Rattle.std.specs.Prelude.{◌≡◌, ℕ, ◌+◌, if◌then◌else◌, List, [], ◌∷◌, ◌++◌, length, map, take, drop, slice_get}
 use Rattle.std.specs.Prelude.{Option, Some, None, is_none, Result, Ok, Err}
 use Rattle.std.specs.Option.{option_to_list}
 use Rattle.tal_words.specs.declared.span.Expanded.{Expanded}
 use Rattle.tal_words.specs.declared.fault.AsmStop.{AsmStop}
 use Rattle.tal_words.specs.declared.fault.AsmStop.TheVariants.{Refused, NoMemory}
 use Rattle.tal_words.specs.Order.{collected}
-use Rattle.tal_words.specs.Faults.{Validated, least}
+use Rattle.tal_words.specs.Faults.{Validated}
 use Rattle.uxn_limits.specs.declared.limits.TheConstants.{MACRO_DEPTH}
 use Rattle.tal_macros.specs.Expansion.{Part, Plain, Head, Inside, Visited, visit_kinds, known_at, visits, visit_list}
 use Rattle.tal_macros.specs.Expansion.{validated_part, parts_of, expansion_fault, without_uses}
@@ -36,7 +36,7 @@ steps_given source before (Inside word) after = head_steps (validated_part sourc
 -- the words that are visited before the first step with a fault
 abbrev pub reached : List ExpansionStep → List Visited
 reached [] = []
-reached (step ∷ steps) = if is_none (least step.validated.kinds) then option_to_list step.visit ++ reached steps else []
+reached (step ∷ steps) = if is_none (slice_get step.validated.kinds 0) then option_to_list step.visit ++ reached steps else []
 
 -- the words of the visit list of a source that stand before its first fault
 unfoldable pub visits_before_fault : List ℕ → List Visited

@@ -1,6 +1,9 @@
 //! The expanded list of a source, word by word and as a whole.
 
-ghost use Rattle.std.specs.Prelude.{◌≡◌, ◌≤◌, ◌∷◌, ◌++◌, ℕ, List, [], None, Some, IfOk, length, map};
+ghost use Rattle.std.specs.Prelude.{◌≡◌, ◌≤◌, ◌∷◌, ◌++◌, ℕ, List, [], None, Some, IfOk, length, map, true};
+ghost use Rattle.std.specs.List.{AllByRecursion};
+ghost use Rattle.tal_words.specs.FirstFault.{are_in_order};
+ghost use Rattle.tal_macros.specs.Expansion.{Part};
 ghost use Rattle.tal_words.specs.declared.span.Expanded.{Expanded as ExpandedWord};
 ghost use Rattle.tal_words.specs.Order.{collected};
 ghost use Rattle.tal_words.specs.Faults.{Gives};
@@ -125,3 +128,10 @@ pub fn expand(alloc: Global, source: &[u8], words: &[Word]) -> Result<Vec<Expand
     }
     Ok(expanded)
 }
+
+/// What is wrong with a word of the visit list or of a head stands in the order of its kinds, so that the first is the least.
+#[tactic(auto, using(crate::proofs::OrderLemmas::part_in_order))]
+pub fn faults_of_macros_are_in_order()
+    ensures { (source : List ℕ) (before after : List Part) (part : Part)
+        → AllByRecursion (λ word. are_in_order word.kinds ≡ true) (validated_part source before part after) }
+{}

@@ -1,10 +1,9 @@
 //! Heads of macros.
 
-ghost use Rattle.std.specs.Prelude.{◌≡◌, ◌<◌, ◌≤◌, ◌+◌, ◌&&◌, ◌==◌, drop, length, true, None, Some};
+ghost use Rattle.std.specs.Prelude.{◌≡◌, ◌<◌, ◌≤◌, ◌+◌, ◌&&◌, ◌==◌, drop, length, true, None, Some, slice_get};
 ghost use Rattle.std.specs.Prelude.{if◌then◌else◌, MatchOption, MatchResult};
 ghost use Rattle.std.specs.Option.{option_or};
 ghost use Rattle.tal_words.specs.Braces.{closes, one_if};
-ghost use Rattle.tal_words.specs.Faults.{least};
 ghost use Rattle.tal_words.specs.Source.{begins, is_only, word_text};
 ghost use Rattle.tal_macros.specs.Expansion.{body_after, head_faults};
 ghost use Rattle.tal_macros.specs.Bodies.{known_macros, word_at};
@@ -61,8 +60,8 @@ fn closed_head(
     requires name { name.now ≡ drop 1 (word_text source.now (word_at words.now at)) }
     ensures { MatchResult result
         (λ closed. IsClosedHead source.now words.now at (known_macros words.now macros.now.entries) closed.body closed.nested)
-        (λ kind. least (head_faults source.now (word_at words.now at) (known_macros words.now macros.now.entries)
-        (body_after source.now (drop (at + 1) words.now))) ≡ Some kind) }
+        (λ kind. slice_get (head_faults source.now (word_at words.now at) (known_macros words.now macros.now.entries)
+        (body_after source.now (drop (at + 1) words.now))) 0 ≡ Some kind) }
 {
     if let Some(kind) = name_fault(name) {
         return Err(kind);

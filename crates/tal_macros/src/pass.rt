@@ -1,7 +1,6 @@
 //! The pass over the words of a source, one step at a time.
 
-ghost use Rattle.std.specs.Prelude.{◌≡◌, ◌+◌, ◌-◌, ◌<◌, [], ◌∷◌, length, is_some, true, None};
-ghost use Rattle.tal_words.specs.Faults.{least};
+ghost use Rattle.std.specs.Prelude.{◌≡◌, ◌+◌, ◌-◌, ◌<◌, [], ◌∷◌, length, is_some, true, None, slice_get};
 ghost use Rattle.uxn_limits.specs.declared.limits.TheConstants.{MACRO_DEPTH, VISIT_LIMIT};
 ghost use Rattle.tal_macros.specs.Expansion.{Visited, visit_kinds};
 ghost use Rattle.tal_macros.specs.Bodies.{body_words};
@@ -111,7 +110,7 @@ impl Pass {
     /// What is wrong with a word of the body that names this body.
     fn visit_fault(&self, used: Option<Body>) -> Option<FaultKind>
         ensures kind { (word : Visited) → word.is_use ≡ is_some used → word.room ≡ MACRO_DEPTH - length self.now.outer.items
-            → result ≡ least (visit_kinds self.now.count word) }
+            → result ≡ slice_get (visit_kinds self.now.count word) 0 }
         ensures room { result ≡ None → is_some used ≡ true → length self.now.outer.items < MACRO_DEPTH }
         ensures few { result ≡ None → self.now.count < VISIT_LIMIT }
     {

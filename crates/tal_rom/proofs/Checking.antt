@@ -1,7 +1,8 @@
 -- The loop over the words with their addresses, which looks for the first fault of their references.
+use Rattle.std.specs.Prelude.{slice_get}
 use Rattle.tal_rom.proofs.Common.{◌≡◌, ℕ, ◌+◌, ◌<◌, ◌≤◌, List, [], ◌∷◌, ◌++◌, Ok, length, take, drop, get_or, map, Option, None, refl, sym, ◌∙◌}
-use Rattle.tal_rom.proofs.Common.{ap, arith, take_more, map-append, Form, Pad, Refer, Rune, Label, each, expanded_text, least}
-use Rattle.tal_rom.proofs.Common.{phase_fault, form, size, reference_size, first_scope, each-end, no_word, fault-later, PlacedWord}
+use Rattle.tal_rom.proofs.Common.{ap, arith, take_more, map-append, Form, Pad, Refer, Rune, Label, each, expanded_text}
+use Rattle.tal_rom.proofs.Common.{phase_fault, form, size, encoded_reference, first_scope, each-end, no_word, fault-later, PlacedWord}
 use Rattle.tal_rom.proofs.Common.{next_scope, scope_after, LieApart, scope_after-append, HasAddress, target_in, reference_kinds, scope_behind}
 use Rattle.tal_rom.proofs.Common.{target_of, validated_reference, reference_fault}
 
@@ -9,7 +10,7 @@ use Rattle.tal_rom.proofs.Common.{target_of, validated_reference, reference_faul
 abbrev pub no_placed_word : PlacedWord
 no_placed_word = record { word = no_word; form = Pad 0; address = 0; size = 0; lambda = None }
 
-pub some_bytes : (rune : Rune) → 0 < reference_size rune
+pub some_bytes : (rune : Rune) → 0 < length (encoded_reference rune 0 0)
 some_bytes rune = grind arith
 
 -- a reference that ends within memory has an address there
@@ -50,7 +51,7 @@ module _ (source : List ℕ) (labels : List Label) (words : List PlacedWord) (k 
     same : target ≡ target_of source labels (take k words) word
     same = rw (named, read, so.scoped) refl
 
-    pub next_checked : (next : List ℕ) → least (reference_kinds word.form word.address target) ≡ None → next ≡ next_scope word.form scope text
+    pub next_checked : (next : List ℕ) → slice_get (reference_kinds word.form word.address target) 0 ≡ None → next ≡ next_scope word.form scope text
         → IsCheckedSo source labels words (k + 1) next
     next_checked next none after = record {
       sound = fault-later (validated_reference source labels) words k no_placed_word within (rw same at none) ∙ so.sound;

@@ -58,8 +58,8 @@ pub use Rattle.tal_words.proofs.FormLemmas.{length-encoded}
 pub use Rattle.tal_words.proofs.OrderLemmas.{each-end, each-more, no_word, get_or-each, last_of-more}
 pub use Rattle.tal_words.proofs.PassLemmas.{fault_or-none, fault-here, fault-later}
 pub use Rattle.tal_words.specs.Braces.{opens, closes}
-pub use Rattle.tal_words.specs.Faults.{least, phase_fault, fault_at, Gives}
-pub use Rattle.tal_words.specs.Forms.{size, reaches, reference_size, encoded}
+pub use Rattle.tal_words.specs.Faults.{phase_fault, fault_at, Gives}
+pub use Rattle.tal_words.specs.Forms.{size, reaches, encoded_reference, encoded}
 unfoldable pub use Rattle.tal_words.specs.Forms.{form}
 pub use Rattle.tal_words.specs.Labels.{address_named}
 pub use Rattle.tal_words.specs.Names.{first_scope, full_name, name_after_rune}

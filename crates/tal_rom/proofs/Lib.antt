@@ -9,3 +9,4 @@ pub mod NameLemmas
 pub mod AddedLemmas
 pub mod PatchedLemmas
 pub mod OnePass
+pub mod OrderLemmas

@@ -1,17 +1,18 @@
 -- Where all words are added: what waits, what does not fit, and the ROM.
+use Rattle.std.specs.Prelude.{slice_get}
 use Rattle.tal_rom.proofs.Common.{◌≡◌, ℕ, ◌+◌, true, false, not, List, [], ◌∷◌, ◌++◌, length, map, Option, None, refl, ap, arith, filter, list_any}
-use Rattle.tal_rom.proofs.Common.{range_with_len, Fault, Label, Expanded, Form, least, phase_fault, each, fault_or-none, PlacedWord, labels_of}
+use Rattle.tal_rom.proofs.Common.{range_with_len, Fault, Label, Expanded, Form, phase_fault, each, fault_or-none, PlacedWord, labels_of}
 use Rattle.tal_rom.proofs.Common.{placed_of, target_of, reference_kinds, validated_reference, reference_fault, byte_at, piece_given, pieces_of}
 use Rattle.tal_rom.proofs.Common.{rom_image, trimmed, rom_limit, Added, waits_by, waits, is_far_by, is_far, known_piece, added_given, added_of}
 use Rattle.tal_rom.proofs.Common.{waiting_count, all_fit, image_of}
 
 -- a word has no fault of its reference exactly where it neither waits nor is far
-one_none : (form : Form) (address : ℕ) (target : Option ℕ) → least (reference_kinds form address target) ≡ None
+one_none : (form : Form) (address : ℕ) (target : Option ℕ) → slice_get (reference_kinds form address target) 0 ≡ None
     → (waits_by form target ≡ false) × (is_far_by form address target ≡ false)
 one_none form address target e = grind arith
 
 none_one : (form : Form) (address : ℕ) (target : Option ℕ) → waits_by form target ≡ false → is_far_by form address target ≡ false
-    → least (reference_kinds form address target) ≡ None
+    → slice_get (reference_kinds form address target) 0 ≡ None
 none_one form address target e f = grind arith
 
 module _ (source : List ℕ) (labels : List Label) where
@@ -28,7 +29,7 @@ module _ (source : List ℕ) (labels : List Label) where
   all_known before [] e = (refl, refl, refl)
   all_known before (placed ∷ words) e =
       let target = target_of source labels before placed in
-      let parts = fault_or-none placed.word.origin (least (reference_kinds placed.form placed.address target)) _ e in
+      let parts = fault_or-none placed.word.origin (slice_get (reference_kinds placed.form placed.address target) 0) _ e in
       grind (arith, one_none placed.form placed.address target parts.0, all_known (before ++ placed ∷ []) words parts.1)
 
   no_fault : (before words : List PlacedWord) → length (filter waits (added before words)) ≡ 0 → not (list_any is_far (added before words)) ≡ true

@@ -1,9 +1,9 @@
 -- From a source to its ROM, or to its first fault (profile: the order of the phases).
 use Rattle.std.specs.Prelude.{ℕ, ◌≡◌, List, Option, None, Some, Result, Ok, Err}
+use Rattle.std.specs.Option.{option_or}
 use Rattle.tal_words.specs.declared.fault.Fault.{Fault}
 use Rattle.tal_words.specs.declared.fault.AsmStop.{AsmStop}
 use Rattle.tal_words.specs.declared.fault.AsmStop.TheVariants.{Refused, NoMemory}
-use Rattle.tal_words.specs.Faults.{or_later}
 use Rattle.tal_words.specs.Comments.{word_fault}
 use Rattle.tal_labels.specs.Placing.{Layout, layout_of, place_fault}
 use Rattle.tal_macros.specs.Expansion.{expanded_of, expansion_fault}
@@ -20,9 +20,9 @@ layout source = layout_of source (expanded_of source)
 -- forms and braces of words and then their labels and places, and the references
 unfoldable pub first_fault : List ℕ → Option Fault
 first_fault source =
-    or_later (word_fault source)
-    (or_later (expansion_fault source)
-    (or_later (place_fault source (expanded_of source))
+    option_or (word_fault source)
+    (option_or (expansion_fault source)
+    (option_or (place_fault source (expanded_of source))
     (reference_fault source (layout source).labels (layout source).words)))
 
 -- the ROM of a source

@@ -1,14 +1,15 @@
 -- Laws of first faults: the first fault of a source is at one of its words.
 use Rattle.std.proofs.Common.{◌≡◌, ℕ, zero, suc, ◌+◌, List, [], ◌∷◌, ◌++◌, refl, Option, Some, None, Result, Ok, Err, arith}
-use Rattle.std.specs.Prelude.{IfSome, unwrap_or}
+use Rattle.std.specs.Prelude.{IfSome, unwrap_or, slice_get}
 use Rattle.std.specs.List.{flat_map, AllByRecursion}
+use Rattle.std.specs.Option.{option_map, option_or}
 use Rattle.tal_words.specs.declared.span.Word.{Word}
 use Rattle.tal_words.specs.declared.span.Expanded.{Expanded}
 use Rattle.tal_words.specs.declared.fault.Fault.{Fault}
 use Rattle.tal_words.specs.declared.fault.FaultKind.{FaultKind}
 use Rattle.tal_words.specs.declared.form.Form.{Form}
 use Rattle.tal_words.specs.Comments.{words_of, word_fault}
-use Rattle.tal_words.specs.Faults.{Validated, fault_or, least, phase_fault, or_later}
+use Rattle.tal_words.specs.Faults.{Validated, phase_fault, fault_at}
 use Rattle.tal_words.specs.Order.{each, collected}
 use Rattle.tal_words.specs.Source.{word_text, expanded_text}
 use Rattle.tal_words.specs.Forms.{form}
@@ -58,15 +59,16 @@ module _ (P : Word → Type 0) where
   abbrev IsValidated : Validated → Type 0
   IsValidated validated = P validated.origin
 
-  or_at : (word : Word) (kind : Option FaultKind) (later : Option Fault) → P word → IfSome later IsAt → IfSome (fault_or word kind later) IsAt
+  or_at : (word : Word) (kind : Option FaultKind) (later : Option Fault) → P word → IfSome later IsAt
+      → IfSome (option_or (option_map (fault_at word) kind) later) IsAt
   or_at word None later holds rest = rest
   or_at word (Some kind) later holds rest = record { word = word; holds = holds; start = refl }
 
   first_at : (words : List Validated) → AllByRecursion IsValidated words → IfSome (phase_fault words) IsAt
   first_at [] all = tt
-  first_at (word ∷ words) all = or_at word.origin (least word.kinds) (phase_fault words) all.0 (first_at words all.1)
+  first_at (word ∷ words) all = or_at word.origin (slice_get word.kinds 0) (phase_fault words) all.0 (first_at words all.1)
 
-  later_at : (earlier later : Option Fault) → IfSome earlier IsAt → IfSome later IsAt → IfSome (or_later earlier later) IsAt
+  later_at : (earlier later : Option Fault) → IfSome earlier IsAt → IfSome later IsAt → IfSome (option_or earlier later) IsAt
   later_at None later is rest = rest
   later_at (Some fault) later is rest = is
 

@@ -1,9 +1,10 @@
 //! What references name, and what is wrong with them.
 
-ghost use Rattle.std.specs.Prelude.{◌≡◌, ◌<◌, ◌≤◌, ◌^◌, IfOk};
+ghost use Rattle.std.specs.Prelude.{◌≡◌, ◌<◌, ◌≤◌, ◌^◌, ℕ, Option, true, IfOk, slice_get};
+ghost use Rattle.tal_words.specs.FirstFault.{are_in_order};
+ghost use Rattle.tal_words.specs.declared.form.Form.{Form as FormValue};
 ghost use Rattle.tal_labels.specs.Answers.{FindsNone};
 ghost use Rattle.tal_labels.specs.Placing.{LieApart};
-ghost use Rattle.tal_words.specs.Faults.{least};
 ghost use Rattle.tal_words.specs.Forms.{is_near as is_near_target, reaches as reaches_target};
 ghost use Rattle.tal_words.specs.Names.{name_after_rune as name_of_reference, full_name as full_name_in};
 ghost use Rattle.tal_words.specs.Labels.{address_named};
@@ -61,7 +62,7 @@ fn target_in(
 /// What is wrong with a word at an address, by its target.
 fn reference_kind(form: Form, address: u64, target: Option<u16>) -> Option<FaultKind>
     requires { HasAddress form address }
-    ensures { result ≡ least (reference_kinds form address target) }
+    ensures { result ≡ slice_get (reference_kinds form address target) 0 }
 {
     match (form, target) {
         (Form::Refer(_), None) => Some(FaultKind::UnknownName),
@@ -115,3 +116,9 @@ pub fn check_references(alloc: Global, source: &[u8], placed: &Placed) -> Result
     }
     Ok(())
 }
+
+/// What is wrong with a reference stands in the order of its kinds, so that the first is the least.
+#[tactic(auto, using(crate::proofs::OrderLemmas::reference_in_order))]
+pub fn faults_of_references_are_in_order()
+    ensures { (form : FormValue) (address : ℕ) (target : Option ℕ) → are_in_order (reference_kinds form address target) ≡ true }
+{}

@@ -1,17 +1,14 @@
 -- What a symbol file says, or what is wrong with it (profile).
 use Rattle.std.specs.Prelude.{ℕ, ◌+◌, ◌*◌, not, ◌&&◌, ◌==◌, nat_le, nat_lt, if◌then◌else◌, List, []}
 use Rattle.std.specs.Prelude.{◌∷◌, length, map, Option, Some, None, Result, Ok, Err}
-use Rattle.std.specs.List.{list_any, take_while}
+use Rattle.std.specs.Prelude.{drop, slice_index}
+use Rattle.std.specs.List.{list_any, take_while, onto_first}
+use Rattle.std.specs.Option.{option_map, option_or, option_map_or}
 use Rattle.tal_words.specs.declared.name.Label.{Label}
 use Rattle.tal_words.specs.Source.{is_blank}
 use Rattle.tal_symbols.specs.declared.stop.SymbolKind.{SymbolKind}
 use Rattle.tal_symbols.specs.declared.stop.SymbolKind.TheVariants.{Torn, NoName, BadByte, Long}
 use Rattle.uxn_limits.specs.declared.limits.TheConstants.{SYMBOLS_LIMIT}
-
--- a byte at the start of the first of some entries
-abbrev pub onto_first : ℕ → List (List ℕ) → List (List ℕ)
-onto_first byte [] = (byte ∷ []) ∷ []
-onto_first byte (first ∷ others) = (byte ∷ first) ∷ others
 
 -- how a file is cut: an entry ends with the first zero byte after its two address bytes, or with the file; so many bytes of the
 -- first entry stand before these
@@ -36,15 +33,11 @@ bad_name (first ∷ rest) = if list_any is_blank (first ∷ rest) then Some BadB
 
 -- what is wrong with an entry: it is torn where it has fewer than two address bytes or no zero byte behind them
 abbrev pub entry_fault : List ℕ → Option SymbolKind
-entry_fault [] = Some Torn
-entry_fault (high ∷ []) = Some Torn
-entry_fault (high ∷ low ∷ text) = if list_any (λ byte. byte == 0) text then bad_name (name_before_zero text) else Some Torn
+entry_fault entry = if list_any (λ byte. byte == 0) (drop 2 entry) then bad_name (name_before_zero (drop 2 entry)) else Some Torn
 
 -- the label of an entry without a fault
 abbrev pub label_of_entry : List ℕ → Label
-label_of_entry [] = record { name = []; address = 0 }
-label_of_entry (high ∷ []) = record { name = []; address = 0 }
-label_of_entry (high ∷ low ∷ text) = record { name = name_before_zero text; address = 256 * high + low }
+label_of_entry entry = record { name = name_before_zero (drop 2 entry); address = 256 * slice_index entry 0 + slice_index entry 1 }
 
 -- why a file is refused: the number of an entry, from 0, and what is wrong with it
 pub record Refusal : Type 0 where
@@ -52,21 +45,13 @@ pub record Refusal : Type 0 where
   pub kind : SymbolKind
 
 -- the first entry that has a fault, the first of them with this number
-abbrev pub refused_at : ℕ → Option SymbolKind → Option Refusal → Option Refusal
-refused_at number None later = later
-refused_at number (Some kind) later = Some (record { entry = number; kind = kind })
-
 abbrev pub first_refusal : ℕ → List (List ℕ) → Option Refusal
 first_refusal number [] = None
-first_refusal number (entry ∷ others) = refused_at number (entry_fault entry) (first_refusal (number + 1) others)
-
--- a refusal, or else these labels
-abbrev pub labels_unless : Option Refusal → List Label → Result (List Label) Refusal
-labels_unless None labels = Ok labels
-labels_unless (Some refusal) labels = Err refusal
+first_refusal number (entry ∷ others) =
+    option_or (option_map (λ kind. record { entry = number; kind = kind }) (entry_fault entry)) (first_refusal (number + 1) others)
 
 -- the labels of a symbol file, or why it is refused
 unfoldable pub symbols_in : List ℕ → Result (List Label) Refusal
 symbols_in bytes =
     if nat_lt SYMBOLS_LIMIT (length bytes) then Err (record { entry = 0; kind = Long })
-    else labels_unless (first_refusal 0 (entries bytes)) (map label_of_entry (entries bytes))
+    else option_map_or Err (first_refusal 0 (entries bytes)) (Ok (map label_of_entry (entries bytes)))

@@ -52,11 +52,10 @@ module _ (source : List ℕ) where
         word_left still short unstray = rw (outside, plain, short, unstray, still) refl
 
         -- a word that is too long
-        long_left : (stray : Bool) → begins 41 (word_text source token) ≡ stray → nat_lt WORD_LIMIT (length (word_text source token)) ≡ true
+        long_left : nat_lt WORD_LIMIT (length (word_text source token)) ≡ true
             → fault_left opener before (token ∷ after) ≡ Some (fault_at token LongWord)
         unfolding fault_left
-        long_left true stray long = rw (outside, plain, long, stray) refl
-        long_left false stray long = rw (outside, plain, long, stray) refl
+        long_left long = rw (outside, plain, long) refl
 
         -- a word that closes no comment
         stray_left : nat_lt WORD_LIMIT (length (word_text source token)) ≡ false → begins 41 (word_text source token) ≡ true
@@ -149,7 +148,7 @@ module _ (source : List ℕ) (all : List Word) (k : ℕ) (words : List Word) (de
 
       pub step_long : WORD_LIMIT < length text → phase_fault (each (validated_token source) [] all) ≡ Some (fault_at token LongWord)
       step_long long =
-          left ∙ long_left source (take k all) token (drop (k + 1) all) opener (outside low) plain (begins 41 (word_text source token)) refl
+          left ∙ long_left source (take k all) token (drop (k + 1) all) opener (outside low) plain
           (lt-ltb WORD_LIMIT _ (rw is_text at long))
 
       pub step_stray : (closes : Bool) → length text ≤ WORD_LIMIT → closes ≡ begins 41 text → closes ≡ true

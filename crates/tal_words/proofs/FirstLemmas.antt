@@ -1,46 +1,37 @@
 -- That the first fault is the first.
-use Rattle.std.proofs.Common.{◌≡◌, ◌≤◌, Bool, true, false, List, [], ◌∷◌, Option, Some, None, inl, inr, refl, ap, arith}
-use Rattle.std.specs.Prelude.{MatchOption, nat_le, if◌then◌else◌}
-use Rattle.std.specs.List.{AllByRecursion}
-use Rattle.std.proofs.lemmas.Bool.{leb-true, leb-false}
+use Rattle.std.proofs.Common.{◌≡◌, ◌≤◌, ℕ, Bool, true, false, List, [], ◌∷◌, ◌++◌, Option, Some, None, refl, ap, arith, append-nil, append_assoc, map, subst, sym}
+use Rattle.std.proofs.lemmas.Bool.{and_parts}
+use Rattle.std.proofs.lemmas.Grind.{common_steps}
+use Rattle.std.specs.List.{AllByRecursion, flat_map, list_all}
+use Rattle.std.specs.Prelude.{MatchOption, nat_lt, slice_get}
+use Rattle.std.specs.Option.{option_map, option_or}
 use Rattle.tal_words.specs.declared.fault.Fault.{Fault}
 use Rattle.tal_words.specs.declared.fault.FaultKind.{FaultKind}
-use Rattle.tal_words.specs.Faults.{Validated, kind_number, lesser, least, fault_or, phase_fault}
-use Rattle.tal_words.specs.FirstFault.{IsLeastKind, NoneFaulty, IsFirstFault, IsFirst}
+use Rattle.tal_words.specs.declared.fault.FaultKind.TheVariants.{OpenComment, LongWord, StrayParen}
+use Rattle.tal_words.specs.Faults.{Validated, fault_at, phase_fault, when}
+use Rattle.tal_words.specs.FirstFault.{NoneFaulty, IsFirstFault, IsFirst, are_in_order, kind_number}
 
-no_kind : (kinds : List FaultKind) → least kinds ≡ None → kinds ≡ []
+pub no_kind : (kinds : List FaultKind) → slice_get kinds 0 ≡ None → kinds ≡ []
 no_kind [] none = refl
 no_kind (kind ∷ kinds) none = cc
 
--- what is not below one kind is not below one of less number
-still_below : (kind other : FaultKind) (kinds : List FaultKind) → kind_number kind ≤ kind_number other
-    → AllByRecursion (λ each. kind_number other ≤ kind_number each) kinds → AllByRecursion (λ each. kind_number kind ≤ kind_number each) kinds
-still_below kind other [] le below = below
-still_below kind other (first ∷ kinds) le below = (omega (arith, le, below.0), still_below kind other kinds le below.1)
+-- the first of kinds in order has the least number
+above_all : (number : ℕ) (kinds : List FaultKind) → list_all (λ kind. nat_lt number (kind_number kind)) kinds ≡ true
+    → AllByRecursion (λ kind. number ≤ kind_number kind) kinds
+above_all number [] all = tt
+above_all number (kind ∷ kinds) all = grind (arith, common_steps, above_all number kinds)
 
-lesser_is : (kind other : FaultKind) (kinds : List FaultKind) (first : Bool) → nat_le (kind_number kind) (kind_number other) ≡ first
-    → IsLeastKind kinds other → IsLeastKind (kind ∷ kinds) (if first then kind else other)
-lesser_is kind other kinds true le rest =
-    record { among = inl refl; below = (omega arith, still_below kind other kinds (leb-true _ _ le) rest.below) }
-lesser_is kind other kinds false gt rest =
-    let less = leb-false (kind_number kind) (kind_number other) gt in
-    record { among = inr rest.among; below = (omega (arith, less), rest.below) }
+least_of : (kinds : List FaultKind) (first : FaultKind) → slice_get kinds 0 ≡ Some first → are_in_order kinds ≡ true
+    → AllByRecursion (λ kind. kind_number first ≤ kind_number kind) kinds
+least_of [] first some ordered = tt
+least_of (kind ∷ kinds) first some ordered =
+    let same : first ≡ kind = cc some in
+    subst (λ least. AllByRecursion (λ other. kind_number least ≤ kind_number other) (kind ∷ kinds)) (sym same)
+    (omega arith, above_all (kind_number kind) kinds (and_parts _ _ ordered).0)
 
-least_all : (first : FaultKind) (kinds : List FaultKind) → IsLeastKind (first ∷ kinds) (lesser first (least kinds))
-least_all first [] = record { among = inl refl; below = (omega arith, tt) }
-least_all first (second ∷ kinds) =
-    lesser_is first (lesser second (least kinds)) (second ∷ kinds)
-    (nat_le (kind_number first) (kind_number (lesser second (least kinds)))) refl (least_all second kinds)
-
-least_is : (kinds : List FaultKind) (kind : FaultKind) → least kinds ≡ Some kind → IsLeastKind kinds kind
-least_is [] kind found = cc
-least_is (first ∷ kinds) kind found =
-    let same : lesser first (least kinds) ≡ kind = cc in
-    rw same at (least_all first kinds)
-
-first_step : (word : Validated) (words : List Validated) (kind : Option FaultKind) → least word.kinds ≡ kind → (found : Option Fault)
+first_step : (word : Validated) (words : List Validated) (kind : Option FaultKind) → slice_get word.kinds 0 ≡ kind → (found : Option Fault)
     → MatchOption found (NoneFaulty words) (IsFirstFault words)
-    → MatchOption (fault_or word.origin kind found) (NoneFaulty (word ∷ words)) (IsFirstFault (word ∷ words))
+    → MatchOption (option_or (option_map (fault_at word.origin) kind) found) (NoneFaulty (word ∷ words)) (IsFirstFault (word ∷ words))
 first_step word words None none None rest = (no_kind word.kinds none, rest)
 first_step word words None none (Some fault) rest = record {
   prefix = word ∷ rest.prefix;
@@ -49,6 +40,7 @@ first_step word words None none (Some fault) rest = record {
   parts = ap (λ others. word ∷ others) rest.parts;
   faultless = (no_kind word.kinds none, rest.faultless);
   reported = rest.reported;
+  first_kind = rest.first_kind;
   least_kind = rest.least_kind;
 }
 first_step word words (Some kind) some found rest = record {
@@ -58,9 +50,44 @@ first_step word words (Some kind) some found rest = record {
   parts = refl;
   faultless = tt;
   reported = refl;
-  least_kind = least_is word.kinds kind some;
+  first_kind = some;
+  least_kind = least_of word.kinds kind some;
 }
 
 pub first_is : (words : List Validated) → IsFirst words
 first_is [] = tt
-first_is (word ∷ words) = first_step word words (least word.kinds) refl (phase_fault words) (first_is words)
+first_is (word ∷ words) = first_step word words (slice_get word.kinds 0) refl (phase_fault words) (first_is words)
+
+-- what tests leave of kinds in order is in order
+left_above : (number : ℕ) (tests : List (Bool × FaultKind)) → list_all (λ kind. nat_lt number (kind_number kind)) (map (λ test. test.1) tests) ≡ true
+    → list_all (λ kind. nat_lt number (kind_number kind)) (flat_map (λ test. when test.0 test.1) tests) ≡ true
+left_above number [] all = refl
+left_above number ((true, kind) ∷ tests) all = grind (arith, common_steps, left_above number tests)
+left_above number ((false, kind) ∷ tests) all = left_above number tests (and_parts _ _ all).1
+
+pub left_in_order : (tests : List (Bool × FaultKind)) → are_in_order (map (λ test. test.1) tests) ≡ true
+    → are_in_order (flat_map (λ test. when test.0 test.1) tests) ≡ true
+left_in_order [] ordered = refl
+left_in_order ((true, kind) ∷ tests) ordered = grind (arith, common_steps, left_above (kind_number kind) tests, left_in_order tests)
+left_in_order ((false, kind) ∷ tests) ordered = left_in_order tests (and_parts _ _ ordered).1
+
+-- of two, three and four kinds
+module _ (a b c d : Bool) (p q r s : FaultKind) where
+  pub two_in_order : are_in_order (p ∷ q ∷ []) ≡ true → are_in_order (when a p ++ when b q) ≡ true
+  two_in_order ordered = rw (← append-nil (when b q)) (left_in_order ((a, p) ∷ (b, q) ∷ []) ordered)
+
+  pub three_in_order : are_in_order (p ∷ q ∷ r ∷ []) ≡ true → are_in_order (when a p ++ when b q ++ when c r) ≡ true
+  three_in_order ordered =
+      rw (append_assoc (when a p) (when b q) (when c r), ← append-nil (when c r)) (left_in_order ((a, p) ∷ (b, q) ∷ (c, r) ∷ []) ordered)
+
+  pub four_in_order : are_in_order (p ∷ q ∷ r ∷ s ∷ []) ≡ true → are_in_order (when a p ++ when b q ++ when c r ++ when d s) ≡ true
+  four_in_order ordered =
+      rw (
+        append_assoc (when a p ++ when b q) (when c r) (when d s),
+        append_assoc (when a p) (when b q) (when c r ++ when d s),
+        ← append-nil (when d s),
+      ) (left_in_order ((a, p) ∷ (b, q) ∷ (c, r) ∷ (d, s) ∷ []) ordered)
+
+pub token_in_order : (opens is_long strays : Bool)
+    → are_in_order (when opens OpenComment ++ when is_long LongWord ++ when strays StrayParen) ≡ true
+token_in_order opens is_long strays = three_in_order opens is_long strays true OpenComment LongWord StrayParen OpenComment refl

@@ -1,8 +1,9 @@
 use Rattle.std.proofs.Common.{◌≡◌, ℕ, zero, suc, ◌+◌, ◌<◌, ◌≤◌, List, [], ◌∷◌, ◌++◌, length, take, drop, get_or, Option, refl, sym, ap, arith}
 use Rattle.std.proofs.Common.{append_assoc, append-nil}
 use Rattle.std.proofs.lemmas.List.{take_more, drop_more, drop_all}
+use Rattle.std.specs.Option.{option_or}
 use Rattle.tal_words.specs.declared.span.Expanded.{Expanded}
-use Rattle.tal_words.specs.Order.{collected, each, or_earlier, last_of}
+use Rattle.tal_words.specs.Order.{collected, each, last_of}
 
 module _ {X Y : Type 0} (give : List X → X → List X → Y) where
   -- what the words from k on give begins with what word k gives
@@ -58,7 +59,7 @@ module _ {X Y : Type 0} (give : List X → X → List X → List Y) where
   collected-more alone before words last = rw (collected-append alone before words (last ∷ []), append-nil) refl
 
 module _ {X Y : Type 0} (find : X → Option Y) where
-  pub last_of-more : (items : List X) (last : X) → last_of find (items ++ last ∷ []) ≡ or_earlier (find last) (last_of find items)
+  pub last_of-more : (items : List X) (last : X) → last_of find (items ++ last ∷ []) ≡ option_or (find last) (last_of find items)
   last_of-more [] last = grind arith
   last_of-more (item ∷ items) last = grind (arith, last_of-more items last)
 

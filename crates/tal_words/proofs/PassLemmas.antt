@@ -1,10 +1,12 @@
 -- A pass over items: what it has given so far, and where its first fault is, one item at a time.
 use Rattle.std.proofs.Common.{◌≡◌, ℕ, zero, suc, ◌+◌, ◌<◌, ◌≤◌, List, [], ◌∷◌, ◌++◌, length, take, drop, get_or, Option, Some, None, refl, arith}
 use Rattle.std.proofs.Common.{append_assoc, append-nil}
+use Rattle.std.specs.Prelude.{slice_get}
+use Rattle.std.specs.Option.{option_map, option_or}
 use Rattle.tal_words.specs.declared.span.Word.{Word}
 use Rattle.tal_words.specs.declared.fault.Fault.{Fault}
 use Rattle.tal_words.specs.declared.fault.FaultKind.{FaultKind}
-use Rattle.tal_words.specs.Faults.{Validated, least, fault_at, fault_or, phase_fault}
+use Rattle.tal_words.specs.Faults.{Validated, fault_at, phase_fault}
 use Rattle.tal_words.specs.Order.{each, collected}
 use Rattle.tal_words.proofs.OrderLemmas.{each-step, collected-step, collected-end}
 
@@ -22,26 +24,26 @@ module _ {X Y : Type 0} (give : List X → X → List X → List Y) (items : Lis
 
 module _ {X : Type 0} (validate : List X → X → List X → Validated) (items : List X) (k : ℕ) (d : X) (within : k < length items) where
   -- the first fault from an item on is at this item, where it has one
-  pub fault-here : (kind : FaultKind) → least (validate (take k items) (get_or items k d) (drop (k + 1) items)).kinds ≡ Some kind
+  pub fault-here : (kind : FaultKind) → slice_get (validate (take k items) (get_or items k d) (drop (k + 1) items)).kinds 0 ≡ Some kind
       → phase_fault (each validate (take k items) (drop k items))
       ≡ Some (fault_at (validate (take k items) (get_or items k d) (drop (k + 1) items)).origin kind)
   fault-here kind e = rw (each-step validate items k d within, e) refl
 
   -- and further on where this item has none
-  pub fault-later : least (validate (take k items) (get_or items k d) (drop (k + 1) items)).kinds ≡ None
+  pub fault-later : slice_get (validate (take k items) (get_or items k d) (drop (k + 1) items)).kinds 0 ≡ None
       → phase_fault (each validate (take (k + 1) items) (drop (k + 1) items)) ≡ phase_fault (each validate (take k items) (drop k items))
   fault-later e = rw (each-step validate items k d within, e) refl
 
 -- no fault at a word and none further on
-pub fault_or-none : (word : Word) (o : Option FaultKind) (later : Option Fault) → fault_or word o later ≡ None → (o ≡ None) × (later ≡ None)
+pub fault_or-none : (word : Word) (o : Option FaultKind) (later : Option Fault) → option_or (option_map (fault_at word) o) later ≡ None → (o ≡ None) × (later ≡ None)
 fault_or-none word None later e = (refl, e)
 fault_or-none word (Some kind) later e = cc
 
 -- where a phase has no fault none of its words has one
-pub none-at : (words : List Validated) (k : ℕ) (d : Validated) → phase_fault words ≡ None → k < length words → least (get_or words k d).kinds ≡ None
+pub none-at : (words : List Validated) (k : ℕ) (d : Validated) → phase_fault words ≡ None → k < length words → slice_get (get_or words k d).kinds 0 ≡ None
 none-at [] k d e h = absurd (omega arith)
-none-at (word ∷ words) zero d e h = (fault_or-none word.origin (least word.kinds) (phase_fault words) e).0
-none-at (word ∷ words) (suc k) d e h = none-at words k d (fault_or-none word.origin (least word.kinds) (phase_fault words) e).1 (omega arith)
+none-at (word ∷ words) zero d e h = (fault_or-none word.origin (slice_get word.kinds 0) (phase_fault words) e).0
+none-at (word ∷ words) (suc k) d e h = none-at words k d (fault_or-none word.origin (slice_get word.kinds 0) (phase_fault words) e).1 (omega arith)
 
 -- the first fault of words without a fault and of those behind them
 pub fault-behind : (xs ys : List Validated) → phase_fault xs ≡ None → phase_fault (xs ++ ys) ≡ phase_fault ys

@@ -1,64 +1,23 @@
--- What can be wrong with a source, and which fault is the first (profile: the kinds, their numbers and the phases).
-use Rattle.std.specs.Prelude.{◌≡◌, ℕ, Bool, nat_le, if◌then◌else◌, List, [], ◌∷◌, codes, Option, Some, None}
+-- What can be wrong with a source, and which fault is the first (profile: the kinds, their order and the phases).
+use Rattle.std.specs.Prelude.{◌≡◌, ℕ, Bool, if◌then◌else◌, List, [], ◌∷◌, map, slice_get, slice_index_or, Option, None, Some}
 use Rattle.std.specs.Prelude.{Result, Ok, Err}
+use Rattle.std.specs.Option.{option_map, option_or}
+use denote.Enum.Declared.{tag_of}
 use Rattle.tal_words.specs.declared.span.Word.{Word}
 use Rattle.tal_words.specs.declared.fault.Fault.{Fault}
 use Rattle.tal_words.specs.declared.fault.FaultKind.{FaultKind}
-use Rattle.tal_words.specs.declared.fault.FaultKind.TheVariants.{OpenComment, LongWord, StrayParen, BadNumber, BadName, NoName}
-use Rattle.tal_words.specs.declared.fault.FaultKind.TheVariants.{IncludeHere, LongSource, MacroTwice, MacroBody, MacroDeep}
-use Rattle.tal_words.specs.declared.fault.FaultKind.TheVariants.{ManyWords, StrayBrace, OpenBrace, LabelTwice, ZeroPage, Outside}
-use Rattle.tal_words.specs.declared.fault.FaultKind.TheVariants.{Rewind, UnknownName, TooFar}
+use Rattle.tal_words.specs.declared.fault.FaultKind.TheVariants.{LongSource}
+use Rattle.tal_words.specs.declared.fault.TheConstants.{KIND_NAMES}
+use Rattle.tal_words.specs.contracts.fault.FaultKind.{the_type}
 use Rattle.tal_words.specs.declared.fault.AsmStop.{AsmStop}
 use Rattle.tal_words.specs.declared.fault.AsmStop.TheVariants.{Refused, NoMemory}
 use Rattle.tal_words.specs.Source.{bytes_run_at}
 
--- the number of a kind
-abbrev pub kind_number : FaultKind → ℕ
-kind_number OpenComment = 1
-kind_number LongWord = 2
-kind_number StrayParen = 3
-kind_number BadNumber = 4
-kind_number BadName = 5
-kind_number NoName = 6
-kind_number IncludeHere = 7
-kind_number LongSource = 8
-kind_number MacroTwice = 9
-kind_number MacroBody = 10
-kind_number MacroDeep = 11
-kind_number ManyWords = 12
-kind_number StrayBrace = 13
-kind_number OpenBrace = 14
-kind_number LabelTwice = 15
-kind_number ZeroPage = 16
-kind_number Outside = 17
-kind_number Rewind = 18
-kind_number UnknownName = 19
-kind_number TooFar = 20
-
--- the name of a kind, as it is printed
+-- the name of a kind, as it is printed, by the place of the kind in the list of kinds
 abbrev pub kind_name : FaultKind → List ℕ
-kind_name OpenComment = codes "OpenComment"
-kind_name LongWord = codes "LongWord"
-kind_name StrayParen = codes "StrayParen"
-kind_name BadNumber = codes "BadNumber"
-kind_name BadName = codes "BadName"
-kind_name NoName = codes "NoName"
-kind_name IncludeHere = codes "IncludeHere"
-kind_name LongSource = codes "LongSource"
-kind_name MacroTwice = codes "MacroTwice"
-kind_name MacroBody = codes "MacroBody"
-kind_name MacroDeep = codes "MacroDeep"
-kind_name ManyWords = codes "ManyWords"
-kind_name StrayBrace = codes "StrayBrace"
-kind_name OpenBrace = codes "OpenBrace"
-kind_name LabelTwice = codes "LabelTwice"
-kind_name ZeroPage = codes "ZeroPage"
-kind_name Outside = codes "Outside"
-kind_name Rewind = codes "Rewind"
-kind_name UnknownName = codes "UnknownName"
-kind_name TooFar = codes "TooFar"
+kind_name kind = slice_index_or (map (λ name. name.now) KIND_NAMES) (tag_of the_type kind) []
 
--- a word of a phase: where its faults are reported, and each kind of fault that it has
+-- a word of a phase: where its faults are reported, and each kind of fault that it has, in order
 pub record Validated : Type 0 where
   pub origin : Word
   pub kinds : List FaultKind
@@ -67,34 +26,14 @@ pub record Validated : Type 0 where
 abbrev pub when : Bool → FaultKind → List FaultKind
 when test kind = if test then kind ∷ [] else []
 
--- the one of less number
-abbrev pub lesser : FaultKind → Option FaultKind → FaultKind
-lesser kind None = kind
-lesser kind (Some other) = if nat_le (kind_number kind) (kind_number other) then kind else other
-
--- the kind of least number
-abbrev pub least : List FaultKind → Option FaultKind
-least [] = None
-least (kind ∷ kinds) = Some (lesser kind (least kinds))
-
 -- a fault of this kind at a word
 abbrev pub fault_at : Word → FaultKind → Fault
 fault_at word kind = record { at = word.span.start; line = word.line; column = word.column; kind = kind }
 
--- the fault at a word that has some kind, or else what is found further on
-abbrev pub fault_or : Word → Option FaultKind → Option Fault → Option Fault
-fault_or word None later = later
-fault_or word (Some kind) later = Some (fault_at word kind)
-
--- the first fault of a phase: at its first word that has a fault, of the least kind there
+-- the first fault of a phase: at its first word that has a fault, of the first kind there
 abbrev pub phase_fault : List Validated → Option Fault
 phase_fault [] = None
-phase_fault (word ∷ words) = fault_or word.origin (least word.kinds) (phase_fault words)
-
--- the fault of an earlier phase comes before those of a later one
-abbrev pub or_later : Option Fault → Option Fault → Option Fault
-or_later None later = later
-or_later (Some fault) later = Some fault
+phase_fault (word ∷ words) = option_or (option_map (fault_at word.origin) (slice_get word.kinds 0)) (phase_fault words)
 
 -- a pass answers its value where it has no fault, and else its first fault, unless memory runs out
 abbrev pub Gives : {X Y : Type 0} → (X → Y) → Result X AsmStop → Option Fault → Y → Type 0

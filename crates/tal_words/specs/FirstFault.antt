@@ -1,25 +1,25 @@
 -- What the first fault is, in the words of the faults themselves.
-use Rattle.std.specs.Prelude.{◌≡◌, ◌≤◌, ◌⊎◌, List, [], ◌∷◌, ◌++◌, MatchOption}
-use Rattle.std.specs.List.{AllByRecursion}
-use Rattle.tal_words.specs.declared.fault.Fault.{Fault}
+use denote.Enum.Declared.{tag_of}
+use Rattle.std.specs.Prelude.{◌≡◌, ◌≤◌, ℕ, Bool, true, ◌&&◌, nat_lt, List, [], ◌∷◌, ◌++◌, slice_get, Some, MatchOption}
+use Rattle.std.specs.List.{AllByRecursion, list_all}
+use Rattle.tal_words.specs.contracts.fault.FaultKind.{the_type}
 use Rattle.tal_words.specs.declared.fault.FaultKind.{FaultKind}
-use Rattle.tal_words.specs.Faults.{Validated, kind_number, fault_at, phase_fault}
-
--- a kind is among some kinds
-abbrev pub IsAmong : List FaultKind → FaultKind → Type 0
-IsAmong [] kind = ⊥
-IsAmong (other ∷ others) kind = (other ≡ kind) ⊎ IsAmong others kind
-
--- a kind is among some kinds, and none of them has a lesser number
-pub record IsLeastKind (kinds : List FaultKind) (kind : FaultKind) : Type 0 where
-  pub among : IsAmong kinds kind
-  pub below : AllByRecursion (λ other. kind_number kind ≤ kind_number other) kinds
+use Rattle.tal_words.specs.declared.fault.Fault.{Fault}
+use Rattle.tal_words.specs.Faults.{Validated, fault_at, phase_fault}
 
 -- no word has a fault
 abbrev pub NoneFaulty : List Validated → Type 0
 NoneFaulty words = AllByRecursion (λ word. word.kinds ≡ []) words
 
--- no word before that of the fault has one, and the word has no fault of a lesser number
+-- kinds stand in the order of their numbers, which are their places in the list of kinds
+abbrev pub kind_number : FaultKind → ℕ
+kind_number kind = tag_of the_type kind
+
+abbrev pub are_in_order : List FaultKind → Bool
+are_in_order [] = true
+are_in_order (kind ∷ kinds) = list_all (λ other. nat_lt (kind_number kind) (kind_number other)) kinds && are_in_order kinds
+
+-- no word before that of the fault has one, and the word has no fault before it: none of a lesser number, where its kinds are in order
 pub record IsFirstFault (words : List Validated) (fault : Fault) : Type 0 where
   pub prefix : List Validated
   pub word : Validated
@@ -27,7 +27,8 @@ pub record IsFirstFault (words : List Validated) (fault : Fault) : Type 0 where
   pub parts : words ≡ prefix ++ word ∷ back
   pub faultless : NoneFaulty prefix
   pub reported : fault ≡ fault_at word.origin fault.kind
-  pub least_kind : IsLeastKind word.kinds fault.kind
+  pub first_kind : slice_get word.kinds 0 ≡ Some fault.kind
+  pub least_kind : are_in_order word.kinds ≡ true → AllByRecursion (λ kind. kind_number fault.kind ≤ kind_number kind) word.kinds
 
 -- the first fault is the first, and where there is none no word has a fault
 abbrev pub IsFirst : List Validated → Type 0

@@ -1,6 +1,7 @@
 -- What each word means, and the bytes that it represents (Uxntal syntax reference).
 use Rattle.std.specs.Prelude.{ℕ, ◌+◌, ◌-◌, ◌/◌, ◌%◌, Bool, true, ◌&&◌, ◌||◌, ◌==◌, nat_le}
-use Rattle.std.specs.Prelude.{if◌then◌else◌, List, [], ◌∷◌, length, drop, Option, Some, None, Result, Ok, Err}
+use Rattle.std.specs.Prelude.{if◌then◌else◌, List, [], ◌∷◌, length, drop, Result, Ok, Err}
+use Rattle.std.specs.Option.{option_map_or}
 use Rattle.tal_words.specs.declared.fault.FaultKind.{FaultKind}
 use Rattle.tal_words.specs.declared.fault.FaultKind.TheVariants.{BadNumber, BadName, NoName, IncludeHere}
 use Rattle.tal_words.specs.declared.form.Form.{Form}
@@ -11,11 +12,6 @@ use Rattle.tal_words.specs.declared.form.Rune.TheVariants.{LitRel, RawRel, LitZe
 use Rattle.tal_words.specs.Opcodes.{byte_of_op}
 use Rattle.tal_words.specs.Digits.{number_of_digits, is_byte_number, is_short_number, is_address_number}
 use Rattle.tal_words.specs.Names.{name_fault, rune_of, slash}
-
--- the form, unless something is wrong with the name
-abbrev pub named : Option FaultKind → Form → Result Form FaultKind
-named None form = Ok form
-named (Some kind) form = Err kind
 
 -- the form of a word that must have more than its first character
 abbrev pub unless_empty : List ℕ → Result Form FaultKind → Result Form FaultKind
@@ -46,22 +42,12 @@ reference rune (first ∷ rest) =
     else if first == 123 then if_alone rest (Refer rune)
     else Ok (Refer rune)
 
--- the form of an opcode word, or a call of a name
-abbrev pub op_or_call : Option ℕ → Form
-op_or_call (Some byte) = Op byte
-op_or_call None = Refer Jsi
-
 -- a word without a rune: a number, an opcode word or the name of a subroutine
 abbrev pub bare : List ℕ → Form
 bare word =
     if is_byte_number word then Raw1 (number_of_digits word)
     else if is_short_number word then Raw2 (number_of_digits word)
-    else op_or_call (byte_of_op word)
-
--- a word with the rune of a reference, or without one
-abbrev pub rune_or_bare : Option Rune → List ℕ → List ℕ → Result Form FaultKind
-rune_or_bare (Some rune) rest word = reference rune rest
-rune_or_bare None rest word = Ok (bare word)
+    else option_map_or Op (byte_of_op word) (Refer Jsi)
 
 -- the form of a word by its first character, in this order: `|` `$` `#` `"` `@` `&` `~` `/` `{` `}` `[` `]`, and others
 unfoldable pub form : List ℕ → Result Form FaultKind
@@ -71,7 +57,7 @@ form (first ∷ rest) =
     else if first == 36 then address_number rest (Skip (number_of_digits rest))
     else if first == 35 then literal_form rest
     else if first == 34 then Ok Text
-    else if first == 64 then named (name_fault rest) LabelDef
+    else if first == 64 then option_map_or Err (name_fault rest) (Ok LabelDef)
     else if first == 38 then unless_empty rest (Ok SubDef)
     else if first == 126 then unless_empty rest (Err IncludeHere)
     else if first == slash then unless_empty rest (Ok (Refer Jsi))
@@ -79,35 +65,7 @@ form (first ∷ rest) =
     else if first == 125 then if_alone rest LambdaEnd
     else if first == 91 then if_alone rest Ignored
     else if first == 93 then if_alone rest Ignored
-    else rune_or_bare (rune_of first) rest (first ∷ rest)
-
--- how many bytes a reference has
-abbrev pub reference_size : Rune → ℕ
-reference_size LitRel = 2
-reference_size RawRel = 1
-reference_size LitZero = 2
-reference_size RawZero = 1
-reference_size LitAbs = 3
-reference_size RawAbs = 2
-reference_size Jmi = 3
-reference_size Jci = 3
-reference_size Jsi = 3
-
--- how many bytes a word of a form represents
-abbrev pub size : Form → List ℕ → ℕ
-size (Pad n) word = 0
-size (Skip n) word = 0
-size (Lit1 n) word = 2
-size (Lit2 n) word = 3
-size (Raw1 n) word = 1
-size (Raw2 n) word = 2
-size (Op byte) word = 1
-size Text word = length word - 1
-size LabelDef word = 0
-size SubDef word = 0
-size (Refer rune) word = reference_size rune
-size LambdaEnd word = 0
-size Ignored word = 0
+    else option_map_or (λ rune. reference rune rest) (rune_of first) (Ok (bare (first ∷ rest)))
 
 abbrev pub low_byte : ℕ → ℕ
 low_byte n = n % 256
@@ -140,26 +98,19 @@ encoded_reference Jsi address target = 96 ∷ short_bytes (distance (address + 1
 abbrev pub reaches : Rune → ℕ → ℕ → Bool
 reaches LitRel address target = is_near (address + 1) target
 reaches RawRel address target = is_near address target
-reaches LitZero address target = true
-reaches RawZero address target = true
-reaches LitAbs address target = true
-reaches RawAbs address target = true
-reaches Jmi address target = true
-reaches Jci address target = true
-reaches Jsi address target = true
+reaches _ address target = true
 
 -- the bytes of a word of a form, at an address and with a target if it is a reference
 abbrev pub encoded : Form → List ℕ → ℕ → ℕ → List ℕ
-encoded (Pad n) word address target = []
-encoded (Skip n) word address target = []
 encoded (Lit1 n) word address target = 128 ∷ n ∷ []
 encoded (Lit2 n) word address target = 160 ∷ short_bytes n
 encoded (Raw1 n) word address target = n ∷ []
 encoded (Raw2 n) word address target = short_bytes n
 encoded (Op byte) word address target = byte ∷ []
 encoded Text word address target = drop 1 word
-encoded LabelDef word address target = []
-encoded SubDef word address target = []
 encoded (Refer rune) word address target = encoded_reference rune address target
-encoded LambdaEnd word address target = []
-encoded Ignored word address target = []
+encoded _ word address target = []
+
+-- how many bytes a word of a form represents, at any address and with any target
+abbrev pub size : Form → List ℕ → ℕ
+size form word = length (encoded form word 0 0)

@@ -1,7 +1,8 @@
 -- Names of labels and macros, and the names that references look up (Uxntal syntax reference).
-use Rattle.std.specs.Prelude.{ℕ, not, ◌||◌, ◌==◌, if◌then◌else◌, List, [], ◌∷◌, ◌++◌, codes, drop}
+use Rattle.std.specs.Prelude.{ℕ, not, ◌||◌, ◌==◌, if◌then◌else◌, List, [], ◌∷◌, ◌++◌, codes, drop, find}
 use Rattle.std.specs.Prelude.{Option, Some, None, is_some}
 use Rattle.std.specs.List.{take_while}
+use Rattle.std.specs.Option.{option_map}
 use Rattle.tal_words.specs.declared.fault.FaultKind.{FaultKind}
 use Rattle.tal_words.specs.declared.fault.FaultKind.TheVariants.{BadName, NoName}
 use Rattle.tal_words.specs.declared.form.Rune.{Rune}
@@ -22,17 +23,13 @@ name_fault (first ∷ rest) =
     then Some BadName else None
 
 -- the runes of references: `,` `_` `.` `-` `;` `=` `!` `?`
+abbrev pub runes : List (ℕ × Rune)
+runes =
+    (44, LitRel) ∷ (95, RawRel) ∷ (46, LitZero) ∷ (45, RawZero)
+    ∷ (59, LitAbs) ∷ (61, RawAbs) ∷ (33, Jmi) ∷ (63, Jci) ∷ []
+
 abbrev pub rune_of : ℕ → Option Rune
-rune_of byte =
-    if byte == 44 then Some LitRel
-    else if byte == 95 then Some RawRel
-    else if byte == 46 then Some LitZero
-    else if byte == 45 then Some RawZero
-    else if byte == 59 then Some LitAbs
-    else if byte == 61 then Some RawAbs
-    else if byte == 33 then Some Jmi
-    else if byte == 63 then Some Jci
-    else None
+rune_of byte = option_map (λ row. row.1) (find (λ row. byte == row.0) runes)
 
 -- `/` parts a scope from the name in it
 abbrev pub slash : ℕ

@@ -1,6 +1,7 @@
 -- The names of the opcodes (Uxntal opcode reference; profile: JCI, JMI and JSI are words too).
 use Rattle.std.specs.Prelude.{ℕ, ◌+◌, ◌%◌, Bool, true, false, not, ◌&&◌, ◌||◌, ◌==◌, if◌then◌else◌}
-use Rattle.std.specs.Prelude.{List, [], ◌∷◌, ◌++◌, map, take, drop, codes, slice_index_or, Option, Some, None}
+use Rattle.std.specs.Prelude.{List, [], ◌∷◌, ◌++◌, map, take, drop, codes, slice_index_or, Option, Some, None, find, unwrap_or}
+use Rattle.std.specs.Option.{option_map, option_or}
 use Rattle.std.specs.List.{list_any, position_from}
 use Rattle.std.specs.Str.{bytes_eq}
 use Rattle.uxn_opcodes.specs.declared.operation.Width.{Width}
@@ -47,14 +48,15 @@ abbrev pub moded_byte : Option ℕ → List ℕ → Option ℕ
 moded_byte None modes = None
 moded_byte (Some operation) modes = if are_modes modes then Some (with_modes operation modes) else None
 
--- the byte of an opcode word: one of four whole words, or an operation with modes in any order
+-- the opcodes whose names have no modes
+abbrev pub plain_names : List (ℕ × List ℕ)
+plain_names = (0, codes "BRK") ∷ (32, codes "JCI") ∷ (64, codes "JMI") ∷ (96, codes "JSI") ∷ []
+
+-- the byte of an opcode word: such a name, or an operation with modes in any order
 unfoldable pub byte_of_op : List ℕ → Option ℕ
 byte_of_op word =
-    if bytes_eq word (codes "BRK") then Some 0
-    else if bytes_eq word (codes "JCI") then Some 32
-    else if bytes_eq word (codes "JMI") then Some 64
-    else if bytes_eq word (codes "JSI") then Some 96
-    else moded_byte (position_from (bytes_eq (take 3 word)) 0 operation_names) (drop 3 word)
+    option_or (option_map (λ row. row.0) (find (λ row. bytes_eq word row.1) plain_names))
+    (moded_byte (position_from (bytes_eq (take 3 word)) 0 operation_names) (drop 3 word))
 
 -- the letters of a mode, in the order 2, k, r
 abbrev pub is_short : Width → Bool
@@ -74,8 +76,5 @@ shown_mode byte = record (mode_of byte) { keep = not (byte % 32 == 0) && (mode_o
 -- the name of each of the 256 bytes: the letters of the row by which the machine runs it, and those of its mode
 unfoldable pub name_of_op : ℕ → List ℕ
 name_of_op byte =
-    if byte == 0 then codes "BRK"
-    else if byte == 32 then codes "JCI"
-    else if byte == 64 then codes "JMI"
-    else if byte == 96 then codes "JSI"
-    else slice_index_or operation_names (byte % 32) [] ++ mode_letters (shown_mode byte)
+    unwrap_or (option_map (λ row. row.1) (find (λ row. byte == row.0) plain_names))
+    (slice_index_or operation_names (byte % 32) [] ++ mode_letters (shown_mode byte))

@@ -1,8 +1,10 @@
 //! What can be wrong with a source.
 
-ghost use Rattle.std.specs.Prelude.{◌≡◌, List};
+ghost use Rattle.std.specs.Prelude.{◌≡◌, List, ℕ, true};
 ghost use Rattle.tal_words.specs.Faults.{Validated, kind_name, fault_at, fault_text};
-ghost use Rattle.tal_words.specs.FirstFault.{IsFirst};
+ghost use Rattle.tal_words.specs.Comments.{validated_token};
+ghost use Rattle.tal_words.specs.FirstFault.{IsFirst, are_in_order};
+ghost use Rattle.tal_words.specs.declared.span.Word.{Word as WordSpan};
 ghost use Rattle.tal_words.specs.declared.fault.AsmStop.TheVariants.{NoMemory};
 
 use crate::span::Word;
@@ -10,7 +12,7 @@ use crate::text::run_end;
 use std::alloc::{AllocError, AllocFailed};
 use thiserror::Error;
 
-/// The kinds of faults, numbered from 1 in this order.
+/// The kinds of faults, numbered from 1 in this order. A word has its faults in this order.
 #[derive(Clone, Copy, Debug, PartialEq, Eq)]
 pub enum FaultKind {
     /// A comment is not closed.
@@ -55,33 +57,36 @@ pub enum FaultKind {
     TooFar,
 }
 
+/// The names of the kinds, in their order.
+pub const KIND_NAMES: [&str; 20] = [
+    "OpenComment",
+    "LongWord",
+    "StrayParen",
+    "BadNumber",
+    "BadName",
+    "NoName",
+    "IncludeHere",
+    "LongSource",
+    "MacroTwice",
+    "MacroBody",
+    "MacroDeep",
+    "ManyWords",
+    "StrayBrace",
+    "OpenBrace",
+    "LabelTwice",
+    "ZeroPage",
+    "Outside",
+    "Rewind",
+    "UnknownName",
+    "TooFar",
+];
+
 impl FaultKind {
     /// The name of the kind, as it is printed.
     pub fn name(self) -> &'static str
         ensures { result.now ≡ kind_name self }
     {
-        match self {
-            FaultKind::OpenComment => "OpenComment",
-            FaultKind::LongWord => "LongWord",
-            FaultKind::StrayParen => "StrayParen",
-            FaultKind::BadNumber => "BadNumber",
-            FaultKind::BadName => "BadName",
-            FaultKind::NoName => "NoName",
-            FaultKind::IncludeHere => "IncludeHere",
-            FaultKind::LongSource => "LongSource",
-            FaultKind::MacroTwice => "MacroTwice",
-            FaultKind::MacroBody => "MacroBody",
-            FaultKind::MacroDeep => "MacroDeep",
-            FaultKind::ManyWords => "ManyWords",
-            FaultKind::StrayBrace => "StrayBrace",
-            FaultKind::OpenBrace => "OpenBrace",
-            FaultKind::LabelTwice => "LabelTwice",
-            FaultKind::ZeroPage => "ZeroPage",
-            FaultKind::Outside => "Outside",
-            FaultKind::Rewind => "Rewind",
-            FaultKind::UnknownName => "UnknownName",
-            FaultKind::TooFar => "TooFar",
-        }
+        KIND_NAMES[self as usize]
     }
 }
 
@@ -122,9 +127,13 @@ pub fn fault_word<'a>(source: &'a [u8], fault: &Fault) -> &'a [u8]
     &source[start..end]
 }
 
-/// The first fault is the first: no word before it has one, and its word has none of a lesser number.
+/// The first fault is the first: no word before it has one, and its word has none before it, nor one of a lesser number where its
+/// kinds stand in order. So those of a token do.
+#[tactic(auto, using(crate::proofs::FirstLemmas::first_is, crate::proofs::FirstLemmas::token_in_order))]
 pub fn first_fault_is_first()
-    ensures { (words : List Validated) → IsFirst words }
+    ensures first { (words : List Validated) → IsFirst words }
+    ensures ordered { (source : List ℕ) (before after : List WordSpan) (token : WordSpan)
+        → are_in_order (validated_token source before token after).kinds ≡ true }
 {}
 
 /// Why a source is not assembled.

@@ -1,5 +1,6 @@
+use Rattle.std.specs.Prelude.{slice_get}
 use Rattle.tal_macros.proofs.Common.{◌≡◌, ℕ, ◌+◌, ◌-◌, ◌<◌, inr, true, List, ◌∷◌, [], ◌++◌, length, Option, Some, None, is_some, refl, ap, sym, ◌∙◌}
-use Rattle.tal_macros.proofs.Common.{arith, unwrap_or, flat_map, option_map, Word, Expanded, FaultKind, word_text, least, fault_at, Body, Pass}
+use Rattle.tal_macros.proofs.Common.{arith, unwrap_or, flat_map, option_map, Word, Expanded, FaultKind, word_text, fault_at, Body, Pass}
 use Rattle.tal_macros.proofs.Common.{body_words, known_macros, MACRO_DEPTH, VISIT_LIMIT, Macro, Visited, body_named, visited, visits, visit_kinds}
 use Rattle.tal_macros.proofs.Common.{left, steps_from, RefusesInSteps, Visits}
 use Rattle.tal_macros.proofs.PassLemmas.{pending, pending-push, steps-word, steps-inside, refuses-at, continues-along, continues-same}
@@ -10,7 +11,7 @@ module _ (source : List ℕ) (words : List Word) (old : Pass) (word : Word) (tex
     (first : body_words words old.body ≡ word ∷ body_words words (record { from = old.body.from + 1; to = old.body.to })) (is_text : text ≡ word_text source word)
     (ensured : (all : List Word) → option_map (body_words all) used ≡ body_named (known_macros all old.macros.entries) text)
     (answer : Option FaultKind)
-    (validated : (word : Visited) → word.is_use ≡ is_some used → word.room ≡ MACRO_DEPTH - length old.outer.items → answer ≡ least (visit_kinds old.count word)) where
+    (validated : (word : Visited) → word.is_use ≡ is_some used → word.room ≡ MACRO_DEPTH - length old.outer.items → answer ≡ slice_get (visit_kinds old.count word) 0) where
   abbrev known : List Macro
   known = known_macros words old.macros.entries
 
