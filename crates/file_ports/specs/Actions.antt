@@ -10,12 +10,11 @@ use Rattle.uxn_io_traits.specs.declared.trees.Kind.TheVariants.{Missing, File, F
 use Rattle.uxn_io_traits.specs.declared.trees.Entry.{Entry}
 use Rattle.uxn_io_traits.specs.Files.{Nodes, kind_at, file_bytes_at, is_folder, has_parent}
 use Rattle.uxn_io_traits.specs.Children.{children}
-use Rattle.uxn_io_traits.specs.Changes.{can_create}
 use Rattle.uxn_io_traits.specs.Outside.{Change, Creates, ToFile, Removes}
 use Rattle.uxn_memory.specs.Bytes.{bank0, with_bytes}
 use Rattle.file_ports.specs.declared.mode.Mode.{Mode}
 use Rattle.file_ports.specs.declared.mode.Mode.TheVariants.{Idle, ReadingFile, ReadingListing, Writing}
-use Rattle.file_ports.specs.Device.{FileState, idle_at, is_writing}
+use Rattle.file_ports.specs.Device.{FileState, idle_at, is_reading, is_writing}
 use Rattle.file_ports.specs.Names.{path_named}
 use Rattle.file_ports.specs.Place.{bytes_on}
 use Rattle.file_ports.specs.Signs.{signs}
@@ -59,15 +58,9 @@ observed_in root part parent path = record {
   can_make = can_make_in root part parent path;
 }
 
--- what a device sees of a whole tree
+-- what a device sees of a whole tree, where no path is the root's own
 abbrev pub observed_file : Nodes → List ℕ → Observed
-observed_file nodes path = record {
-  path = path;
-  kind = kind_at nodes path;
-  bytes = file_bytes_at nodes path;
-  entries = children nodes path;
-  can_make = can_create nodes path;
-}
+observed_file nodes path = observed_in None nodes false path
 
 -- a value of the success port, and no change
 abbrev pub quiet : ℕ → FileState → List ℕ → FileOutcome
@@ -80,17 +73,13 @@ looked (File size) entries = ReadingFile 0
 looked Folder entries = ReadingListing 0 (folder_listing entries)
 
 abbrev pub reading : Mode → Observed → Mode
-reading Idle observed = looked observed.kind observed.entries
-reading (ReadingFile place) observed = ReadingFile place
-reading (ReadingListing place listing) observed = ReadingListing place listing
-reading Writing observed = looked observed.kind observed.entries
+reading mode observed = if is_reading mode then mode else looked observed.kind observed.entries
 
 -- what a reading device gives; of a path that is no file any more nothing is left
 abbrev pub given : Mode → Observed → ℕ → List ℕ
-given Idle observed count = []
 given (ReadingFile place) observed count = bytes_on observed.bytes place count
 given (ReadingListing place listing) observed count = bytes_on listing place count
-given Writing observed count = []
+given _ observed count = []
 
 -- what a read gives, so many bytes at most
 abbrev pub piece_read : ℕ → FileState → Option Observed → List ℕ
@@ -99,30 +88,21 @@ piece_read count device (Some observed) = given (reading device.mode observed) o
 
 -- the place moves by their number
 abbrev pub moved : Mode → ℕ → Mode
-moved Idle count = Idle
 moved (ReadingFile place) count = ReadingFile (place + count)
 moved (ReadingListing place listing) count = ReadingListing (place + count) listing
-moved Writing count = Writing
+moved mode count = mode
 
 -- a read puts the bytes in memory, and tells how many
-abbrev pub puts : List ℕ → ℕ → List ℕ → Mode → List ℕ → FileOutcome
-puts path at memory mode piece = record {
-  success = length piece;
-  device = record { path = Some path; mode = moved mode (length piece) };
-  memory = with_bytes memory at piece;
-  changes = [];
-}
-
 abbrev pub reads : ℕ → ℕ → FileState → List ℕ → Option Observed → FileOutcome
 reads at count device memory None = quiet 0 device memory
 reads at count device memory (Some observed) =
-    let mode = reading device.mode observed in puts observed.path at memory mode (given mode observed count)
+    let mode = reading device.mode observed in let piece = given mode observed count in
+    quiet (length piece) (record { path = Some observed.path; mode = moved mode (length piece) }) (with_bytes memory at piece)
 
 -- a file is there
 abbrev pub is_file : Kind → Bool
-is_file Missing = false
 is_file (File size) = true
-is_file Folder = false
+is_file _ = false
 
 -- a writing device goes on with its file, and one that keeps its file with the one that is there; else the file is made empty
 -- first. What is done to begin, if it can begin
@@ -135,10 +115,7 @@ begun goes_on keep observed =
 -- bytes of memory are added to the file, where a write can begin
 abbrev pub adds : List ℕ → List ℕ → List ℕ → Option (List Change) → FileOutcome
 adds path memory piece None = quiet 0 (idle_at (Some path)) memory
-adds path memory piece (Some first) = record {
-  success = length piece;
-  device = record { path = Some path; mode = Writing };
-  memory = memory;
+adds path memory piece (Some first) = record (quiet (length piece) (record { path = Some path; mode = Writing }) memory) {
   changes = first ++ list_map (λ byte. ToFile path byte) piece;
 }
 
@@ -150,8 +127,7 @@ writes at count keep device memory (Some observed) =
 -- a stat puts signs in memory, and tells their number where something is there (profile); the device goes on as before
 abbrev pub stat_success : Kind → ℕ → ℕ
 stat_success Missing count = 0
-stat_success (File size) count = count
-stat_success Folder count = count
+stat_success _ count = count
 
 abbrev pub stats : ℕ → ℕ → FileState → List ℕ → Option Observed → FileOutcome
 stats at count device memory None = quiet 0 device (with_bytes memory at (signs count Missing))
@@ -161,13 +137,8 @@ stats at count device memory (Some observed) =
 -- a delete takes a file away, and tells 1 where one was there (profile)
 abbrev pub deletes : FileState → List ℕ → Option Observed → FileOutcome
 deletes device memory None = quiet 0 device memory
-deletes device memory (Some observed) =
-    if is_file observed.kind then record {
-      success = 1;
-      device = idle_at (Some observed.path);
-      memory = memory;
-      changes = Removes observed.path ∷ [];
-    } else quiet 0 (idle_at (Some observed.path)) memory
+deletes device memory (Some observed) = let idle = idle_at (Some observed.path) in
+    if is_file observed.kind then record (quiet 1 idle memory) { changes = Removes observed.path ∷ [] } else quiet 0 idle memory
 
 -- so many bytes are meant: none past ffff
 abbrev pub count_from : ℕ → ℕ → ℕ

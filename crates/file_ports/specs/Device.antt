@@ -15,17 +15,14 @@ idle_at path = record { path = path; mode = Idle }
 
 -- it reads a file, or a folder's listing
 abbrev pub is_reading : Mode → Bool
-is_reading Idle = false
 is_reading (ReadingFile place) = true
 is_reading (ReadingListing place listing) = true
-is_reading Writing = false
+is_reading _ = false
 
 -- it is writing
 abbrev pub is_writing : Mode → Bool
-is_writing Idle = false
-is_writing (ReadingFile place) = false
-is_writing (ReadingListing place listing) = false
 is_writing Writing = true
+is_writing _ = false
 
 -- a device suits a root where it has no path, or its path is the root's own or beneath it
 abbrev pub suits : Option (List ℕ) → Option (List ℕ) → Bool

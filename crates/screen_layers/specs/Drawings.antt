@@ -77,9 +77,8 @@ covers_row shape width y = list_any (λ x. covers shape x y) (range_with_len 0 w
 -- whether two layers are one
 abbrev pub same_layer : Layer → Layer → Bool
 same_layer Background Background = true
-same_layer Background Foreground = false
-same_layer Foreground Background = false
 same_layer Foreground Foreground = true
+same_layer _ _ = false
 
 -- the colour that a drawing paints at a place of a layer, if it does
 abbrev pub paint : Drawing → Layer → ℕ → ℕ → Option ℕ

@@ -46,9 +46,7 @@ can_resize width height new_width new_height =
 -- a picture once a size was requested: both layers are 0 where it was had
 abbrev pub resized : Picture → ℕ → ℕ → Picture
 resized picture width height =
-    if can_resize picture.width picture.height width height
-    then record { width = width; height = height; drawings = []; unrefreshed = [] }
-    else picture
+    if can_resize picture.width picture.height width height then record new_picture { width = width; height = height } else picture
 
 -- a picture after a refresh
 abbrev pub refreshed : Picture → Picture

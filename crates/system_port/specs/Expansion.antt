@@ -10,7 +10,7 @@ abbrev pub byte_in : List ℕ → ℕ → ℕ → ℕ
 byte_in memory at offset = slice_index memory ((at + offset) % 65536)
 
 abbrev pub short_in : List ℕ → ℕ → ℕ → ℕ
-short_in memory at offset = short_at memory ((at + offset) % 65536)
+short_in memory at offset = short_at 65536 memory ((at + offset) % 65536)
 
 -- a bank and an address in it, with the length of the record
 abbrev pub range_in : List ℕ → ℕ → ℕ → BankRange

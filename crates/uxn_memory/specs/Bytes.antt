@@ -38,21 +38,13 @@ bank_place bank at = bank * 65536 + at % 65536
 abbrev pub in_run : ℕ → ℕ → ℕ → ℕ → Bool
 in_run bank at count place = place / 65536 == bank && nat_lt ((place % 65536 + 65536 - at) % 65536) count
 
--- the short at an address: its high byte there, its low byte at the next address
-abbrev pub short_at : List ℕ → ℕ → ℕ
-short_at memory at = slice_index memory at * 256 + slice_index memory ((at + 1) % 65536)
+-- the short at an address: its high byte there, its low byte at the next one. Addresses wrap after so many: 65536, or 256 in the zero page
+abbrev pub short_at : ℕ → List ℕ → ℕ → ℕ
+short_at wrap memory at = slice_index memory at * 256 + slice_index memory ((at + 1) % wrap)
 
--- the short at a place of the zero page: its low byte at the next place modulo 256
-abbrev pub zero_short_at : List ℕ → ℕ → ℕ
-zero_short_at memory at = slice_index memory at * 256 + slice_index memory ((at + 1) % 256)
-
--- a short stored at an address: its high byte there, its low byte at the next address
-abbrev pub with_short : List ℕ → ℕ → ℕ → List ℕ
-with_short memory at value = slice_set (slice_set memory at (value / 256)) ((at + 1) % 65536) (value % 256)
-
--- a short stored at a place of the zero page: its low byte at the next place modulo 256
-abbrev pub with_zero_short : List ℕ → ℕ → ℕ → List ℕ
-with_zero_short memory at value = slice_set (slice_set memory at (value / 256)) ((at + 1) % 256) (value % 256)
+-- a short stored at an address: its high byte there, its low byte at the next one
+abbrev pub with_short : ℕ → List ℕ → ℕ → ℕ → List ℕ
+with_short wrap memory at value = slice_set (slice_set memory at (value / 256)) ((at + 1) % wrap) (value % 256)
 
 -- these bytes in place of as many from a place on
 abbrev pub with_bytes : List ℕ → ℕ → List ℕ → List ℕ

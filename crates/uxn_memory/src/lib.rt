@@ -35,9 +35,7 @@ ghost use Rattle.uxn_memory.specs.Bytes.{
   bank_place,
   in_run,
   short_at,
-  zero_short_at,
   with_short,
-  with_zero_short,
   with_bytes,
   copied,
   filled,
@@ -120,14 +118,14 @@ impl Memory {
 
     /// The short at an address: high byte there, low byte at the next address modulo 65536.
     pub fn get2(&self, at: u16) -> u16
-        ensures { result ≡ short_at self.now at }
+        ensures { result ≡ short_at 65536 self.now at }
     {
         u16::from(self.get(at)) * 256 + u16::from(self.get(at.wrapping_add(1)))
     }
 
     /// Stores a short: high byte at the address, low byte at the next one modulo 65536.
     pub fn set2(&mut self, at: u16, value: u16)
-        ensures { self.new ≡ with_short self.old at value }
+        ensures { self.new ≡ with_short 65536 self.old at value }
     {
         self.set(at, (value / 256) as u8);
         self.set(at.wrapping_add(1), (value % 256) as u8);
@@ -135,7 +133,7 @@ impl Memory {
 
     /// The short at a place of the zero page: low byte at the next place modulo 256.
     pub fn zero2(&self, at: u8) -> u16
-        ensures { result ≡ zero_short_at self.now at }
+        ensures { result ≡ short_at 256 self.now at }
     {
         u16::from(self.get(u16::from(at))) * 256
             + u16::from(self.get(u16::from(at.wrapping_add(1))))
@@ -143,7 +141,7 @@ impl Memory {
 
     /// Stores a short in the zero page: low byte at the next place modulo 256.
     pub fn set_zero2(&mut self, at: u8, value: u16)
-        ensures { self.new ≡ with_zero_short self.old at value }
+        ensures { self.new ≡ with_short 256 self.old at value }
     {
         self.set(u16::from(at), (value / 256) as u8);
         self.set(u16::from(at.wrapping_add(1)), (value % 256) as u8);

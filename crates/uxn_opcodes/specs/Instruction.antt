@@ -19,6 +19,12 @@ abbrev pub writes_of : Width → ℕ → ℕ → List (ℕ × ℕ)
 writes_of Byte port value = (port, value % 256) ∷ []
 writes_of Short port value = (port, value / 256) ∷ ((port + 1) % 256, value % 256) ∷ []
 
+-- the bytes that an access writes, with their ports
+abbrev pub writes_in : Access → List (ℕ × ℕ)
+writes_in Nothing = []
+writes_in (Read port mode) = []
+writes_in (Write port width value) = writes_of width port value
+
 -- what was read is pushed on this stack
 abbrev pub port_answered : Mode → Core → ℕ → Core
 port_answered mode core value = let s = sides_of mode.returns core in core_of mode.returns (record s { this = pushed s.this mode.width value })
@@ -46,19 +52,10 @@ WriteStops {S} rules (write ∷ writes) ports core stop ports_new core_new =
 
 -- the port access of an instruction is done
 unfoldable pub FinishesAccess : {S : Type 0} → Rules S → Access → Core → S → Core → S → Type 0
-FinishesAccess rules Nothing core ports core_new ports_new = (core_new ≡ core) × (ports_new ≡ ports)
 FinishesAccess rules (Read port mode) core ports core_new ports_new =
     (ports_new ≡ ports)
     × ((value : ℕ) × (ReadsWord rules mode.width ports core port value × (core_new ≡ port_answered mode core value)))
-FinishesAccess rules (Write port width value) core ports core_new ports_new =
-    Written rules (writes_of width port value) ports core ports_new core_new
-
--- the port access of an instruction stops
-unfoldable pub StopsInAccess : {S : Type 0} → Rules S → Access → Core → S → Stop → Core → S → Type 0
-StopsInAccess rules Nothing core ports stop core_new ports_new = ⊥
-StopsInAccess rules (Read port mode) core ports stop core_new ports_new = ⊥
-StopsInAccess rules (Write port width value) core ports stop core_new ports_new =
-    WriteStops rules (writes_of width port value) ports core stop ports_new core_new
+FinishesAccess rules access core ports core_new ports_new = Written rules (writes_in access) ports core ports_new core_new
 
 -- the instruction at `at`: BRK, which ends the vector; or one that runs to its end; or one whose port access stops
 unfoldable pub Instruction : {S : Type 0} → Rules S → Core → S → Result Turn Stop → Core → S → Type 0
@@ -67,4 +64,4 @@ Instruction rules core ports (Ok Broke) core_new ports_new =
 Instruction rules core ports (Ok Ran) core_new ports_new =
     (opcode_at core ≢ 0) × FinishesAccess rules (begun core).access (begun core).core ports core_new ports_new
 Instruction rules core ports (Err stop) core_new ports_new =
-    (opcode_at core ≢ 0) × StopsInAccess rules (begun core).access (begun core).core ports stop core_new ports_new
+    (opcode_at core ≢ 0) × WriteStops rules (writes_in (begun core).access) ports (begun core).core stop ports_new core_new

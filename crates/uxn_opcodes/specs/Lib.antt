@@ -4,3 +4,4 @@ pub mod Rule
 pub mod Ports
 pub mod Instruction
 pub mod Model
+pub mod ModelLaws

@@ -92,7 +92,7 @@ past_opcode core = record core { at = (core.at + 1) % 65536 }
 
 -- the short that follows, and the address after it
 abbrev pub immediate_of : Core → ℕ
-immediate_of core = short_at core.memory core.at
+immediate_of core = short_at 65536 core.memory core.at
 
 -- the machine with another address
 abbrev pub moved : Core → ℕ → Core
@@ -115,7 +115,7 @@ called core = record (jumped core) { returns = pushed core.returns Short ((core.
 -- LIT: pushes the word that follows on this stack, and goes on after it
 abbrev pub literal : Mode → Core → Core
 literal mode core = let s = sides_of mode.returns core in core_of mode.returns (record s {
-  this = pushed s.this mode.width (word_loaded mode.width s.memory s.at);
+  this = pushed s.this mode.width (word_loaded 65536 mode.width s.memory s.at);
   at = (s.at + size_of mode.width) % 65536;
 })
 

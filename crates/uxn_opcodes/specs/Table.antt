@@ -22,7 +22,7 @@ use Rattle.uxn_opcodes.specs.declared.operation.LoadOp.TheVariants.{Ldz, Ldr, Ld
 use Rattle.uxn_opcodes.specs.declared.operation.StoreOp.{StoreOp}
 use Rattle.uxn_opcodes.specs.declared.operation.StoreOp.TheVariants.{Stz, Str, Sta}
 use Rattle.uxn_opcodes.specs.Words.{size_of, word_below, pushed_all, dropped, relative, target}
-use Rattle.uxn_opcodes.specs.Words.{word_loaded, zero_word_loaded, memory_with_word, with_zero_word}
+use Rattle.uxn_opcodes.specs.Words.{word_loaded, memory_with_word}
 
 -- the operations with their letters, in the order of their codes 00 to 1f; 00 has letters alone
 abbrev pub operation_rows : List (List ℕ × Option Op)
@@ -135,15 +135,15 @@ stash_row w = one w (λ a. (w, a) ∷ [])
 
 -- 10, 12 and 14: the word of memory at a place of the zero page, at a signed distance, or at an address
 abbrev pub load_row : LoadOp → Width → List ℕ → ℕ → Row Pushes
-load_row Ldz w memory at = one Byte (λ z. (w, zero_word_loaded w memory z) ∷ [])
-load_row Ldr w memory at = one Byte (λ o. (w, word_loaded w memory (relative at o)) ∷ [])
-load_row Lda w memory at = one Short (λ a. (w, word_loaded w memory a) ∷ [])
+load_row Ldz w memory at = one Byte (λ z. (w, word_loaded 256 w memory z) ∷ [])
+load_row Ldr w memory at = one Byte (λ o. (w, word_loaded 65536 w memory (relative at o)) ∷ [])
+load_row Lda w memory at = one Short (λ a. (w, word_loaded 65536 w memory a) ∷ [])
 
 -- 11, 13 and 15: memory after the word is stored there
 abbrev pub store_row : StoreOp → Width → List ℕ → ℕ → Row (List ℕ)
-store_row Stz w memory at = two w Byte (λ v z. with_zero_word w memory z v)
-store_row Str w memory at = two w Byte (λ v o. memory_with_word w memory (relative at o) v)
-store_row Sta w memory at = two w Short (λ v a. memory_with_word w memory a v)
+store_row Stz w memory at = two w Byte (λ v z. memory_with_word 256 w memory z v)
+store_row Str w memory at = two w Byte (λ v o. memory_with_word 65536 w memory (relative at o) v)
+store_row Sta w memory at = two w Short (λ v a. memory_with_word 65536 w memory a v)
 
 -- 16: the port that is read
 abbrev pub read_row : Row ℕ

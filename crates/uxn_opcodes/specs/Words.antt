@@ -1,7 +1,7 @@
 -- Words of one or two bytes on a stack and in memory, high byte first (Uxntal opcode reference).
 use Rattle.std.specs.Prelude.{ℕ, ◌+◌, ◌-◌, ◌%◌, Bool, true, false, nat_lt, if◌then◌else◌, List, [], ◌∷◌}
 use Rattle.std.specs.Prelude.{slice_index, slice_set}
-use Rattle.uxn_memory.specs.Bytes.{short_at, zero_short_at, with_short, with_zero_short}
+use Rattle.uxn_memory.specs.Bytes.{short_at, with_short}
 use Rattle.uxn_stacks.specs.Cells.{Cells, byte_below, short_below, lowered, pushed_byte, pushed_short}
 use Rattle.uxn_opcodes.specs.declared.operation.Width.{Width}
 use Rattle.uxn_opcodes.specs.declared.operation.Width.TheVariants.{Byte, Short}
@@ -31,25 +31,15 @@ unfoldable pub dropped : Bool → Cells → ℕ → Cells
 dropped true ring count = ring
 dropped false ring count = lowered ring count
 
--- the word of memory at an address
-unfoldable pub word_loaded : Width → List ℕ → ℕ → ℕ
-word_loaded Byte memory at = slice_index memory at
-word_loaded Short memory at = short_at memory at
-
--- the word of memory at a place of the zero page
-unfoldable pub zero_word_loaded : Width → List ℕ → ℕ → ℕ
-zero_word_loaded Byte memory place = slice_index memory place
-zero_word_loaded Short memory place = zero_short_at memory place
+-- the word of memory at an address; addresses wrap after so many: 65536, or 256 in the zero page
+unfoldable pub word_loaded : ℕ → Width → List ℕ → ℕ → ℕ
+word_loaded wrap Byte memory at = slice_index memory at
+word_loaded wrap Short memory at = short_at wrap memory at
 
 -- memory with a word stored at an address, cut to its width
-unfoldable pub memory_with_word : Width → List ℕ → ℕ → ℕ → List ℕ
-memory_with_word Byte memory at value = slice_set memory at (value % 256)
-memory_with_word Short memory at value = with_short memory at value
-
--- memory with a word stored at a place of the zero page, cut to its width
-unfoldable pub with_zero_word : Width → List ℕ → ℕ → ℕ → List ℕ
-with_zero_word Byte memory place value = slice_set memory place (value % 256)
-with_zero_word Short memory place value = with_zero_short memory place value
+unfoldable pub memory_with_word : ℕ → Width → List ℕ → ℕ → ℕ → List ℕ
+memory_with_word wrap Byte memory at value = slice_set memory at (value % 256)
+memory_with_word wrap Short memory at value = with_short wrap memory at value
 
 -- the address at a signed byte from another address
 unfoldable pub relative : ℕ → ℕ → ℕ

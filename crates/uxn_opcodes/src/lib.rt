@@ -28,8 +28,8 @@ ghost use Rattle.uxn_opcodes.specs.Instruction.{
   WriteStops,
   writes_of,
   port_answered,
+  writes_in,
   FinishesAccess,
-  StopsInAccess,
   Instruction,
 };
 
@@ -284,7 +284,7 @@ fn answer(core: &mut Core, mode: Mode, value: u16)
 
 /// Does the port access of an instruction. The ports see the next address in `core.at`, and a write may change it.
 #[inline(always)]
-#[tactic(auto, unfolding(crate::specs::Instruction::FinishesAccess, crate::specs::Instruction::StopsInAccess))]
+#[tactic(auto, unfolding(crate::specs::Instruction::FinishesAccess))]
 fn finish<P: Ports>(
     core: &mut Core,
     at: &mut u16,
@@ -292,7 +292,8 @@ fn finish<P: Ports>(
     access: Access,
 ) -> Result<(), Stop>
     ensures ok { OnOk result (FinishesAccess P.rules access (moved core.old at.old) ports.old (moved core.new at.new) ports.new) }
-    ensures err { IfErr result (λ stop. StopsInAccess P.rules access (moved core.old at.old) ports.old stop (moved core.new at.new) ports.new) }
+    ensures err { IfErr result (λ stop. WriteStops P.rules (writes_in access)
+        ports.old (moved core.old at.old) stop ports.new (moved core.new at.new)) }
     ensures ledger { Ledger (P.faults ports.old) (P.faults ports.new) (result_blame result) }
 {
     match access {

@@ -8,9 +8,7 @@ ghost use Rattle.uxn_opcodes.specs.Words.{
   pushed,
   dropped,
   word_loaded,
-  zero_word_loaded,
   memory_with_word,
-  with_zero_word,
   relative,
   target,
 };
@@ -143,7 +141,7 @@ pub fn push(ring: &mut Ring, width: Width, value: u32)
 #[inline(always)]
 #[tactic(auto, unfolding(crate::specs::Words::word_loaded))]
 pub fn load(memory: &Memory, width: Width, at: u16) -> u16
-    ensures { result ≡ word_loaded width memory.now at }
+    ensures { result ≡ word_loaded 65536 width memory.now at }
 {
     match width {
         Width::Byte => u16::from(memory.get(at)),
@@ -153,9 +151,9 @@ pub fn load(memory: &Memory, width: Width, at: u16) -> u16
 
 /// The word of memory at a place of the zero page.
 #[inline(always)]
-#[tactic(auto, unfolding(crate::specs::Words::zero_word_loaded))]
+#[tactic(auto, unfolding(crate::specs::Words::word_loaded))]
 pub fn load_zero(memory: &Memory, width: Width, place: u8) -> u16
-    ensures { result ≡ zero_word_loaded width memory.now place }
+    ensures { result ≡ word_loaded 256 width memory.now place }
 {
     match width {
         Width::Byte => u16::from(memory.get(u16::from(place))),
@@ -167,7 +165,7 @@ pub fn load_zero(memory: &Memory, width: Width, place: u8) -> u16
 #[inline(always)]
 #[tactic(auto, unfolding(crate::specs::Words::memory_with_word))]
 pub fn store(memory: &mut Memory, width: Width, at: u16, value: u16)
-    ensures { memory.new ≡ memory_with_word width memory.old at value }
+    ensures { memory.new ≡ memory_with_word 65536 width memory.old at value }
 {
     match width {
         Width::Byte => memory.set(at, (value % 256) as u8),
@@ -177,9 +175,9 @@ pub fn store(memory: &mut Memory, width: Width, at: u16, value: u16)
 
 /// Stores a word at a place of the zero page.
 #[inline(always)]
-#[tactic(auto, unfolding(crate::specs::Words::with_zero_word))]
+#[tactic(auto, unfolding(crate::specs::Words::memory_with_word))]
 pub fn store_zero(memory: &mut Memory, width: Width, place: u8, value: u16)
-    ensures { memory.new ≡ with_zero_word width memory.old place value }
+    ensures { memory.new ≡ memory_with_word 256 width memory.old place value }
 {
     match width {
         Width::Byte => memory.set(u16::from(place), (value % 256) as u8),

@@ -2,6 +2,7 @@
 use Rattle.std.specs.Prelude.{ℕ, ◌+◌, ◌*◌, ◌==◌, Bool, true, false, List, []}
 use Rattle.std.specs.Prelude.{◌∷◌, ◌++◌, map, Option, Some, None, if◌then◌else◌}
 use Rattle.uxn_io_traits.specs.Outside.{Change, ToOut, ToErr}
+use Rattle.uxn_limits.specs.declared.ports.TheConstants.{SCREEN_WIDTH, SCREEN_HEIGHT, SCREEN_AUTO, SCREEN_X, SCREEN_Y, SCREEN_ADDR}
 use Rattle.uxn_opcodes.specs.declared.Core.{Core}
 use Rattle.system_port.specs.declared.expansions.BankRange.{BankRange}
 use Rattle.system_port.specs.Expansion.{no_range, target_at, expanded}
@@ -18,43 +19,27 @@ use Rattle.varvara_bus.specs.declared.ports.FileAct.{FileAct}
 use Rattle.varvara_bus.specs.declared.ports.FileAct.TheVariants.{Stat, Delete, Name, Read, Write}
 use Rattle.file_ports.specs.Actions.{FileOutcome, count_from}
 use Rattle.input_ports.specs.Page.{short_stores}
-use Rattle.screen_layers.specs.declared.Moved.{Moved}
 use Rattle.screen_layers.specs.Drawings.{moved_by_pixel, moved_by_sprite}
 use Rattle.screen_layers.specs.Pictures.{after_pixel, after_sprite, resized}
 use Rattle.audio_mixer.specs.Sounds.{started_on}
-use Rattle.varvara_bus.specs.History.{Store, History, stored, stored_short}
+use Rattle.varvara_bus.specs.History.{stored, stored_short}
 use Rattle.varvara_bus.specs.State.{DeviceState, storing}
 use Rattle.varvara_bus.specs.Voices.{voice_number, base_of, note_at}
 use Rattle.varvara_bus.specs.FileActs.{file_base, file_outcome, file_acted}
 
--- the ports whose write acts
+-- the ports of a file device whose write acts
+abbrev pub file_actions : FileNumber → List (ℕ × Action)
+file_actions number = map (λ (row : ℕ × FileAct). (file_base number + row.0, ActsOnFile number row.1))
+    ((0x05, Stat) ∷ (0x06, Delete) ∷ (0x09, Name) ∷ (0x0d, Read) ∷ (0x0f, Write) ∷ [])
+
+-- the ports whose write acts, a line for each device
 abbrev pub actions : List (ℕ × Action)
 actions =
-    (0x03, Expands)
-    ∷ (0x04, SetsWorkingPointer)
-    ∷ (0x05, SetsReturnPointer)
-    ∷ (0x0e, PutsDebugText)
-    ∷ (0x18, PutsOut)
-    ∷ (0x19, PutsErr)
-    ∷ (0x23, AsksWidth)
-    ∷ (0x25, AsksHeight)
-    ∷ (0x2e, DrawsPixel)
-    ∷ (0x2f, DrawsSprite)
-    ∷ (0x3f, StartsNote First)
-    ∷ (0x4f, StartsNote Second)
-    ∷ (0x5f, StartsNote Third)
-    ∷ (0x6f, StartsNote Fourth)
-    ∷ (0xa5, ActsOnFile FirstFile Stat)
-    ∷ (0xa6, ActsOnFile FirstFile Delete)
-    ∷ (0xa9, ActsOnFile FirstFile Name)
-    ∷ (0xad, ActsOnFile FirstFile Read)
-    ∷ (0xaf, ActsOnFile FirstFile Write)
-    ∷ (0xb5, ActsOnFile SecondFile Stat)
-    ∷ (0xb6, ActsOnFile SecondFile Delete)
-    ∷ (0xb9, ActsOnFile SecondFile Name)
-    ∷ (0xbd, ActsOnFile SecondFile Read)
-    ∷ (0xbf, ActsOnFile SecondFile Write)
-    ∷ []
+    (0x03, Expands) ∷ (0x04, SetsWorkingPointer) ∷ (0x05, SetsReturnPointer) ∷ (0x0e, PutsDebugText)
+    ∷ (0x18, PutsOut) ∷ (0x19, PutsErr)
+    ∷ (0x23, AsksWidth) ∷ (0x25, AsksHeight) ∷ (0x2e, DrawsPixel) ∷ (0x2f, DrawsSprite)
+    ∷ map (λ voice. (base_of voice + 0x0f, StartsNote voice)) (First ∷ Second ∷ Third ∷ Fourth ∷ [])
+    ++ file_actions FirstFile ++ file_actions SecondFile
 
 abbrev pub action_in : List (ℕ × Action) → ℕ → Action
 action_in [] port = Stores
@@ -111,47 +96,28 @@ no_effect devices core = record { core = core; devices = devices; changes = [] }
 abbrev pub debug_bytes : ℕ → Core → List ℕ
 debug_bytes byte core = if byte == 0 then [] else debug_text_of core.working core.returns
 
--- the screen's ports: auto, and the shorts x, y and address
-abbrev pub auto_in : History → ℕ
-auto_in history = stored history 0x26
-
-abbrev pub x_in : History → ℕ
-x_in history = stored_short history 0x28
-
-abbrev pub y_in : History → ℕ
-y_in history = stored_short history 0x2a
-
-abbrev pub addr_in : History → ℕ
-addr_in history = stored_short history 0x2c
-
 -- the screen is requested the width that is stored, with the height that it has; or for the height, with its width
 abbrev pub width_requested : DeviceState → DeviceState
-width_requested state = record state { picture = resized state.picture (stored_short state.history 0x22) state.picture.height }
+width_requested state = record state { picture = resized state.picture (stored_short state.history SCREEN_WIDTH) state.picture.height }
 
 abbrev pub height_requested : DeviceState → DeviceState
-height_requested state = record state { picture = resized state.picture state.picture.width (stored_short state.history 0x24) }
+height_requested state = record state { picture = resized state.picture state.picture.width (stored_short state.history SCREEN_HEIGHT) }
 
 -- a pixel is drawn at x and y, and the next x and y are stored
-abbrev pub places_stored : ℕ × ℕ → List Store
-places_stored next = short_stores 0x28 next.0 ++ short_stores 0x2a next.1
-
 abbrev pub pixel_drawn : ℕ → DeviceState → DeviceState
 pixel_drawn control state =
-    storing (places_stored (moved_by_pixel (x_in state.history) (y_in state.history) (auto_in state.history) control)) (record state {
-      picture = after_pixel state.picture (x_in state.history) (y_in state.history) control;
-    })
+    let x = stored_short state.history SCREEN_X in let y = stored_short state.history SCREEN_Y in let auto = stored state.history SCREEN_AUTO in
+    let next = moved_by_pixel x y auto control in
+    storing (short_stores SCREEN_X next.0 ++ short_stores SCREEN_Y next.1) (record state { picture = after_pixel state.picture x y control })
 
 -- tiles are drawn from x and y on, with the bytes at the address, and the next x, y and address are stored
-abbrev pub moved_stored : Moved → List Store
-moved_stored next = short_stores 0x28 next.x ++ short_stores 0x2a next.y ++ short_stores 0x2c next.addr
-
 abbrev pub sprite_drawn : ℕ → List ℕ → DeviceState → DeviceState
 sprite_drawn control memory state =
-    storing (moved_stored
-    (moved_by_sprite (x_in state.history) (y_in state.history) (addr_in state.history) (auto_in state.history) control)) (record state {
-      picture = after_sprite state.picture memory
-          (x_in state.history) (y_in state.history) (addr_in state.history) (auto_in state.history) control;
-    })
+    let x = stored_short state.history SCREEN_X in let y = stored_short state.history SCREEN_Y in
+    let addr = stored_short state.history SCREEN_ADDR in let auto = stored state.history SCREEN_AUTO in
+    let next = moved_by_sprite x y addr auto control in
+    storing (short_stores SCREEN_X next.x ++ short_stores SCREEN_Y next.y ++ short_stores SCREEN_ADDR next.addr)
+    (record state { picture = after_sprite state.picture memory x y addr auto control })
 
 -- a voice starts the note that its ports hold
 abbrev pub note_started : Voice → DeviceState → DeviceState

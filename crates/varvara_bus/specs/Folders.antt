@@ -1,5 +1,5 @@
 -- Which instructions take the names of a folder: the one work of a machine's ports that takes memory.
-use Rattle.std.specs.Prelude.{◌≡◌, ◌≢◌, ℕ, Bool, true, false, List, [], ◌∷◌, ◌++◌, Option, Some}
+use Rattle.std.specs.Prelude.{◌≡◌, ◌≢◌, ℕ, Bool, true, false, List, ◌∷◌, ◌++◌, Option, Some}
 use Rattle.std.specs.Prelude.{None, is_some, IsTrue, IfSome, Err, refl}
 use Rattle.std.proofs.Common.{ap, sym, ◌∙◌}
 use Rattle.uxn_io_traits.specs.Files.{Nodes, kind_at}
@@ -11,8 +11,8 @@ use Rattle.file_ports.specs.ActLaws.{rootless}
 use Rattle.uxn_opcodes.specs.declared.Core.{Core}
 use Rattle.uxn_opcodes.specs.declared.Stop.TheVariants.{NoMemory}
 use Rattle.uxn_opcodes.specs.Rule.{opcode_at, begun}
-use Rattle.uxn_opcodes.specs.Instruction.{Instruction}
-use Rattle.uxn_opcodes.specs.Model.{writes_in, written_by, carried-stopped}
+use Rattle.uxn_opcodes.specs.Instruction.{writes_in, Instruction}
+use Rattle.uxn_opcodes.specs.ModelLaws.{carried-stopped}
 use Rattle.varvara_bus.specs.declared.bus.Bus.{Bus}
 use Rattle.varvara_bus.specs.declared.devices.Devices.{Devices}
 use Rattle.varvara_bus.specs.declared.ports.Action.{Action}
@@ -22,7 +22,7 @@ use Rattle.varvara_bus.specs.declared.ports.FileAct.TheVariants.{Read}
 use Rattle.varvara_bus.specs.State.{DeviceState, DevicesRepresent, HasFiles}
 use Rattle.varvara_bus.specs.FileActs.{file_in}
 use Rattle.varvara_bus.specs.Effect.{action_of}
-use Rattle.varvara_bus.specs.Model.{varvara}
+use Rattle.varvara_bus.specs.Model.{no_changes, varvara, reached_by}
 use Rattle.varvara_bus.specs.Bus.{BusModel, BusRepresents, WantsFolder, WantsNames, bus_rules, contents_on}
 use Rattle.varvara_bus.specs.Laws.{held-file, suits-file}
 use Rattle.varvara_bus.specs.InstructionLaws.{RepresentsSince, carries, starts, goes-on}
@@ -33,11 +33,6 @@ pub record TakesNames (action : Action) (devices : DeviceState) : Type 0 where
   pub reads : action ≡ ActsOnFile number Read
   pub folder : WantsFolder (file_in number devices) (Some devices.part)
 
--- the devices once an instruction has made some of its writes
-abbrev pub devices_after : List (ℕ × ℕ) → DeviceState → Core → DeviceState
-devices_after writes devices core =
-    (written_by varvara writes (record { core = (begun core).core; ports = record { devices = devices; changes = [] } })).ports.devices
-
 -- an instruction takes the names of a folder where one of its writes does, once those before it were made
 pub record InstructionTakesNames (devices : DeviceState) (core : Core) : Type 0 where
   pub before : List (ℕ × ℕ)
@@ -46,7 +41,7 @@ pub record InstructionTakesNames (devices : DeviceState) (core : Core) : Type 0 
   pub after : List (ℕ × ℕ)
   pub goes_on : opcode_at core ≢ 0
   pub in_order : writes_in (begun core).access ≡ before ++ (port, byte) ∷ after
-  pub takes : TakesNames (action_of port) (devices_after before devices core)
+  pub takes : TakesNames (action_of port) (reached_by devices core before).ports.devices
 
 -- a path of the root part is a folder there where it is one in the tree
 folder-in : (root path : Option (List ℕ)) (nodes : Nodes) → IsTrue (suits root path)
@@ -83,7 +78,7 @@ module _ {T O E : Type 0} (meaning : BusModel T O E) where
       → InstructionTakesNames devices core
   instruction-names core core_new before now devices stands stopped =
       let at = carried-stopped (bus_rules meaning) (RepresentsSince meaning before) varvara (carries meaning before) core before
-      (record { devices = devices; changes = [] }) NoMemory core_new now (starts meaning before devices stands) stopped in
+      (no_changes devices) NoMemory core_new now (starts meaning before devices stands) stopped in
       record {
         before = at.before;
         port = at.port;
@@ -92,5 +87,5 @@ module _ {T O E : Type 0} (meaning : BusModel T O E) where
         goes_on = goes-on meaning core core_new before now NoMemory stopped;
         in_order = at.in_order;
         takes = takes-in (action_of at.port) at.ports.devices.now (meaning.tree.state at.ports.tree.now).contents
-            (devices_after at.before devices core) at.same_ports.devices.devices at.same_ports.devices.files (at.stops.names refl);
+            (reached_by devices core at.before).ports.devices at.same_ports.devices.devices at.same_ports.devices.files (at.stops.names refl);
       }

@@ -20,16 +20,16 @@ use Rattle.uxn_opcodes.specs.declared.rows.Access.{Access}
 use Rattle.uxn_opcodes.specs.declared.rows.Access.TheVariants.{Nothing, Read, Write}
 use Rattle.uxn_opcodes.specs.Ports.{result_blame}
 use Rattle.uxn_opcodes.specs.Rule.{opcode_at, begun}
-use Rattle.uxn_opcodes.specs.Instruction.{Written, WriteStops, writes_of, FinishesAccess, StopsInAccess, Instruction}
-use Rattle.uxn_opcodes.specs.Model.{Machine, Carries, RepresentsMachine, MachineStopsAt, after_instruction, access_done, written_by}
-use Rattle.uxn_opcodes.specs.Model.{writes_in, carried-ran, carried-broke, carried-stopped}
+use Rattle.uxn_opcodes.specs.Instruction.{Written, WriteStops, writes_of, writes_in, FinishesAccess, Instruction}
+use Rattle.uxn_opcodes.specs.Model.{Machine, after_instruction, access_done, written_by}
+use Rattle.uxn_opcodes.specs.ModelLaws.{Carries, RepresentsMachine, MachineStopsAt, carried-ran, carried-broke, carried-stopped}
 use Rattle.varvara_bus.specs.declared.bus.Bus.{Bus}
 use Rattle.varvara_bus.specs.State.{DeviceState, HasFiles}
 use Rattle.varvara_bus.specs.Effect.{action_of, asks_tree, effect}
 use Rattle.varvara_bus.specs.Bus.{SameBus, BusRepresents, HasRoot, BusModel, outside_on, Makes, StopsShort, HasEffect, contents_on}
 use Rattle.varvara_bus.specs.Bus.{RepresentsTo, ComesTo, HasActed, bus_rules}
 use Rattle.varvara_bus.specs.Footprints.{effect-keeps}
-use Rattle.varvara_bus.specs.Model.{Devised, varvara, instruction_effect}
+use Rattle.varvara_bus.specs.Model.{Devised, no_changes, varvara, instruction_effect, reached_by}
 
 -- writes only add to the changes made so far
 record Grows (before now : List Change) : Type 0 where
@@ -60,12 +60,9 @@ access-writes Nothing core so_far = refl
 access-writes (Read port mode) core so_far = refl
 access-writes (Write port width value) core so_far = refl
 
--- the machine where the writes of an instruction begin, and where so many of them are done
+-- the machine where the writes of an instruction begin
 abbrev begins_with : DeviceState → Core → Machine Devised
-begins_with devices core = record { core = (begun core).core; ports = record { devices = devices; changes = [] } }
-
-abbrev reached_by : DeviceState → Core → List (ℕ × ℕ) → Machine Devised
-reached_by devices core writes = written_by varvara writes (begins_with devices core)
+begins_with devices core = record { core = (begun core).core; ports = no_changes devices }
 
 -- the changes of these writes and of one more
 abbrev changes_with : DeviceState → Core → List (ℕ × ℕ) → ℕ → ℕ → List Change
@@ -79,7 +76,7 @@ instruction-writes : (devices : DeviceState) (core : Core) → opcode_at core �
 unfolding instruction_effect after_instruction
 instruction-writes devices core goes_on =
     let e : (opcode_at core == 0) ≡ false = grind (arith, nat_tests) in
-    rw e (access-writes (begun core).access (begun core).core (record { devices = devices; changes = [] }))
+    rw e (access-writes (begun core).access (begun core).core (no_changes devices))
 
 -- those of the first of its writes come first among them
 changes-then : (devices : DeviceState) (core : Core) (first after : List (ℕ × ℕ)) (port byte : ℕ) → opcode_at core ≢ 0
@@ -204,20 +201,20 @@ module _ {T O E : Type 0} (meaning : BusModel T O E) where
   }
 
   pub starts : (start : Bus T O E) (devices : DeviceState) → BusRepresents (contents_on meaning.tree) start devices
-      → RepresentsSince start start (record { devices = devices; changes = [] })
+      → RepresentsSince start start (no_changes devices)
   starts start devices stands = record { devices = stands; makes = makes-none start }
 
   carried : (before : Bus T O E) (core core_new : Core) (now : Bus T O E) (turn : Turn) (devices : DeviceState)
       → BusRepresents (contents_on meaning.tree) before devices
       → Instruction (bus_rules meaning) core before (Ok turn) core_new now
       → RepresentsMachine (bus_rules meaning) (RepresentsSince before) varvara core_new now (after_instruction varvara core
-      (record { devices = devices; changes = [] }))
+      (no_changes devices))
   carried before core core_new now Ran devices stands ran =
       carried-ran (bus_rules meaning) (RepresentsSince before) varvara (carries before) core before
-      (record { devices = devices; changes = [] }) core_new now (starts before devices stands) ran
+      (no_changes devices) core_new now (starts before devices stands) ran
   carried before core core_new now Broke devices stands ran =
       carried-broke (bus_rules meaning) (RepresentsSince before) varvara core before
-      (record { devices = devices; changes = [] }) core_new now (starts before devices stands) ran
+      (no_changes devices) core_new now (starts before devices stands) ran
 
   -- an instruction that ran over a bus has its effect, from each state that the bus represented
   pub instruction-done : (core core_new : Core) (before now : Bus T O E) (turn : Turn) (devices : DeviceState)
@@ -255,7 +252,7 @@ module _ {T O E : Type 0} (meaning : BusModel T O E) where
   instruction-cut core core_new before now stop devices stands stopped =
       stopped-at before now core core_new stop devices (goes-on core core_new before now stop stopped)
       (carried-stopped (bus_rules meaning) (RepresentsSince before) varvara (carries before) core before
-      (record { devices = devices; changes = [] }) stop core_new now (starts before devices stands) stopped)
+      (no_changes devices) stop core_new now (starts before devices stands) stopped)
 
   -- whatever became of an instruction, the same four are borrowed, and memory ran out only where there is a root
   same-root : (before now : Bus T O E) → SameBus meaning.tree before now → HasRoot now.devices.now → HasRoot before.devices.now
@@ -286,31 +283,22 @@ module _ {T O E : Type 0} (meaning : BusModel T O E) where
   finishes-same : (access : Access) (core core_new : Core) (before now : Bus T O E)
       → FinishesAccess (bus_rules meaning) access core before core_new now → SameBus meaning.tree before now
   unfolding FinishesAccess
-  finishes-same Nothing core core_new before now done = unchanged before now done.1
+  finishes-same Nothing core core_new before now done = unchanged before now done.0
   finishes-same (Read port mode) core core_new before now done = unchanged before now done.0
   finishes-same (Write port width value) core core_new before now done = written-same
       (writes_of width port value) before core now core_new done
-
-  stops-same : (access : Access) (core : Core) (stop : Stop) (core_new : Core) (before now : Bus T O E)
-      → StopsInAccess (bus_rules meaning) access core before stop core_new now
-      → SameBus meaning.tree before now × (stop ≡ NoMemory → HasRoot before.devices.now)
-  unfolding StopsInAccess
-  stops-same Nothing core stop core_new before now stopped = absurd stopped
-  stops-same (Read port mode) core stop core_new before now stopped = absurd stopped
-  stops-same (Write port width value) core stop core_new before now stopped = stopped-same
-      (writes_of width port value) before core stop now core_new stopped
 
   pub instruction-borrowed : (core core_new : Core) (before now : Bus T O E) (result : Result Turn Stop)
       → Instruction (bus_rules meaning) core before result core_new now → SameBus meaning.tree before now
   unfolding Instruction
   instruction-borrowed core core_new before now (Ok Broke) done = unchanged before now done.2
   instruction-borrowed core core_new before now (Ok Ran) done = finishes-same (begun core).access (begun core).core core_new before now done.1
-  instruction-borrowed core core_new before now (Err stop) done = (stops-same (begun core).access
-      (begun core).core stop core_new before now done.1).0
+  instruction-borrowed core core_new before now (Err stop) done = (stopped-same (writes_in (begun core).access)
+      before (begun core).core stop now core_new done.1).0
 
   pub instruction-fault : (core core_new : Core) (before now : Bus T O E) (stop : Stop)
       → Instruction (bus_rules meaning) core before (Err stop) core_new now
       → stop ≡ NoMemory → HasRoot before.devices.now
   unfolding Instruction
-  instruction-fault core core_new before now stop done = (stops-same (begun core).access
-      (begun core).core stop core_new before now done.1).1
+  instruction-fault core core_new before now stop done = (stopped-same (writes_in (begun core).access)
+      before (begun core).core stop now core_new done.1).1

@@ -23,7 +23,7 @@ use Rattle.varvara_bus.specs.Effect.{footprint, short_held, range_of, action_of,
 use Rattle.varvara_bus.specs.Footprints.{touches_memory, touches-behind, effect-keeps}
 use Rattle.varvara_bus.specs.Touched.{touched_by_byte, next_port, touched_by_word}
 use Rattle.varvara_bus.specs.Laws.{found}
-use Rattle.varvara_bus.specs.Model.{varvara}
+use Rattle.varvara_bus.specs.Model.{no_changes, varvara}
 
 -- a page of 256 bytes holds what was last stored in the ports
 pub record IsPageOf (page : List ℕ) (history : History) : Type 0 where
@@ -78,7 +78,7 @@ no-range (Some range) held memory none = cc
 -- the core once a word was written
 abbrev pub after_word : DeviceState → Core → Width → ℕ → ℕ → Core
 after_word devices core width port value =
-    (written_by varvara (writes_of width port value) (record { core = core; ports = record { devices = devices; changes = [] } })).core
+    (written_by varvara (writes_of width port value) (record { core = core; ports = no_changes devices })).core
 
 -- a byte written behind one that was only stored
 second-within : (devices : DeviceState) (core : Core) (page : List ℕ) (port high low : ℕ) → port < 256 → IsPageOf page devices.history

@@ -1,11 +1,9 @@
 -- The ports of the four voices (Varvara device reference: audio).
-use Rattle.std.specs.Prelude.{ℕ, ◌+◌, ◌/◌, ◌%◌}
+use Rattle.std.specs.Prelude.{ℕ, ◌+◌, ◌*◌}
+use Rattle.uxn_limits.specs.declared.ports.TheConstants.{AUDIO_VECTOR, VOICE_PORTS}
 use Rattle.audio_mixer.specs.declared.notes.Start.{Start}
-use Rattle.audio_mixer.specs.Sounds.{Sound, position_of, output_of}
 use Rattle.varvara_bus.specs.declared.ports.Voice.{Voice}
 use Rattle.varvara_bus.specs.declared.ports.Voice.TheVariants.{First, Second, Third, Fourth}
-use Rattle.varvara_bus.specs.declared.ports.VoicePart.{VoicePart}
-use Rattle.varvara_bus.specs.declared.ports.VoicePart.TheVariants.{PositionHigh, PositionLow, Output}
 use Rattle.varvara_bus.specs.History.{History, stored, stored_short}
 
 -- the number of a voice, and the first of its ports
@@ -16,10 +14,7 @@ voice_number Third = 2
 voice_number Fourth = 3
 
 abbrev pub base_of : Voice → ℕ
-base_of First = 0x30
-base_of Second = 0x40
-base_of Third = 0x50
-base_of Fourth = 0x60
+base_of voice = AUDIO_VECTOR + VOICE_PORTS * voice_number voice
 
 -- the note that is stored at the ports from here on: adsr, length, address, volume and pitch
 abbrev pub note_at : History → ℕ → Start
@@ -30,9 +25,3 @@ note_at history base = record {
   volume = stored history (base + 0x0e);
   pitch = stored history (base + 0x0f);
 }
-
--- a byte of what a voice shows
-abbrev pub voice_byte : VoicePart → Sound → ℕ
-voice_byte PositionHigh sound = position_of sound / 256
-voice_byte PositionLow sound = position_of sound % 256
-voice_byte Output sound = output_of sound

@@ -8,10 +8,11 @@ use Rattle.uxn_opcodes.specs.declared.rows.Access.{Access}
 use Rattle.uxn_opcodes.specs.declared.rows.Access.TheVariants.{Nothing, Read, Write}
 use Rattle.uxn_opcodes.specs.Rule.{opcode_at, begun}
 use Rattle.uxn_opcodes.specs.Instruction.{writes_of}
-use Rattle.uxn_opcodes.specs.Model.{Machine, after_instruction, access_done, written_by, writes_in}
+use Rattle.uxn_opcodes.specs.Instruction.{writes_in}
+use Rattle.uxn_opcodes.specs.Model.{Machine, after_instruction, access_done, written_by}
 use Rattle.varvara_bus.specs.State.{DeviceState}
 use Rattle.varvara_bus.specs.Effect.{effect}
-use Rattle.varvara_bus.specs.Model.{Devised, varvara, instruction_effect}
+use Rattle.varvara_bus.specs.Model.{no_changes, Devised, varvara, instruction_effect}
 
 -- the writes of the coming instruction, in order
 abbrev pub writes_at : Core → List (ℕ × ℕ)
@@ -30,12 +31,12 @@ module _ (R : List Change → List (ℕ × ℕ) → Type 0) (Q : DeviceState →
       written-holds writes (varvara.write machine.ports machine.core write.0 write.1) done.1 done.0
 
   access-holds : (access : Access) (core : Core) (devices : DeviceState) → Q devices → R [] (writes_in access)
-      → R (access_done varvara access core (record { devices = devices; changes = [] })).ports.changes []
-      × Q (access_done varvara access core (record { devices = devices; changes = [] })).ports.devices
+      → R (access_done varvara access core (no_changes devices)).ports.changes []
+      × Q (access_done varvara access core (no_changes devices)).ports.devices
   access-holds Nothing core devices q r = (r, q)
   access-holds (Read port mode) core devices q r = (r, q)
   access-holds (Write port width value) core devices q r =
-      written-holds (writes_of width port value) (record { core = core; ports = record { devices = devices; changes = [] } }) q r
+      written-holds (writes_of width port value) (record { core = core; ports = no_changes devices }) q r
 
   pub instruction-holds : (devices : DeviceState) (core : Core) → Q devices → R [] (writes_at core)
       → R (instruction_effect devices core).changes [] × Q (instruction_effect devices core).devices

@@ -36,11 +36,12 @@ ghost use Rattle.varvara_bus.specs.Bus.{
 use crate::devices::Devices;
 use crate::files::act_on_file;
 use crate::page::{
-    apply as apply_to, give as give_to, settle as settle_to, shown, store, stored, stored_short,
+    apply as apply_to, give as give_to, settle as settle_to, store, stored, stored_short,
 };
-use crate::ports::{Action, Source};
-use crate::screen::{ask_height, ask_width, draw_pixel, draw_sprite, palette, refresh, size_shown};
-use crate::voices::{is_endless, pass_frame, render, start_note, voice_shown};
+use crate::ports::Action;
+use crate::reading::read;
+use crate::screen::{ask_height, ask_width, draw_pixel, draw_sprite, palette, refresh};
+use crate::voices::{is_endless, pass_frame, render, start_note};
 use console_port::{EventKind, Output, console_write};
 use input_ports::Input;
 use screen_frame::Palette;
@@ -258,17 +259,8 @@ impl<'a, T: Tree, O: Sink, E: Sink> Ports for Bus<'a, T, O, E> {
 
     ghost stored = { held_page };
 
-    #[tactic(auto, unfolding(crate::specs::ReadsPort::read_of))]
     fn dei(&self, core: &Core, port: u8) -> u8 {
-        match Source::of(port) {
-            Source::Stored => stored(self.devices, port),
-            Source::WorkingPointer => core.working.pointer(),
-            Source::ReturnPointer => core.returns.pointer(),
-            Source::ScreenSize(part) => size_shown(self.devices, part),
-            Source::VoiceShows(voice, part) => voice_shown(self.devices, voice, part),
-            Source::Shows(part) => shown(self.devices, part),
-            Source::Zero => 0,
-        }
+        read(self.devices, core, port)
     }
 
     fn deo(&mut self, core: &mut Core, port: u8, value: u8) -> Result<(), Stop> {

@@ -6,6 +6,7 @@ mod devices;
 mod files;
 mod page;
 mod ports;
+mod reading;
 mod screen;
 mod time;
 mod touches;

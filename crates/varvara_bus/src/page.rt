@@ -4,12 +4,10 @@ ghost use Rattle.console_port.specs.Console.{event_byte, given};
 ghost use Rattle.input_ports.specs.Page.{with_stores, stores_of, stores_after};
 ghost use Rattle.input_ports.specs.Page.{short_stores};
 ghost use Rattle.varvara_bus.specs.History.{at_first, stored, stored_short};
-ghost use Rattle.varvara_bus.specs.ReadsPort.{time_byte, shown_by};
 ghost use Rattle.uxn_io_traits.specs.Files.{Nodes};
 ghost use Rattle.varvara_bus.specs.State.{DeviceState, DevicesRepresent, device_clock, new_state, storing};
 
 use crate::devices::Devices;
-use crate::ports::{TimePart, time_byte};
 use crate::time::{Clock, Time};
 use audio_mixer::Mixer;
 use console_port::{EventKind, give as give_page};
@@ -130,12 +128,4 @@ pub(crate) fn store_short(devices: &mut Devices, port: u8, value: u16)
 {
     store(devices, port, (value / 256) as u8);
     store(devices, port + 1, (value % 256) as u8);
-}
-
-/// A byte of what the clock shows.
-#[inline(never)]
-pub(crate) fn shown(devices: &Devices, part: TimePart) -> u8
-    ensures { result ≡ time_byte part (shown_by (device_clock devices.now) devices.now.time.frames) }
-{
-    time_byte(part, &devices.time.shown())
 }

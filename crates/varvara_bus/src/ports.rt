@@ -1,39 +1,10 @@
 //! Which ports do more than hold a byte.
 ghost use Rattle.std.specs.Prelude.{◌≡◌, ◌<◌, ◌≤◌};
 ghost use Rattle.varvara_bus.specs.Voices.{voice_number, base_of};
-ghost use Rattle.varvara_bus.specs.ReadsPort.{port_source, time_byte};
 ghost use Rattle.varvara_bus.specs.FileActs.{file_base};
 ghost use Rattle.varvara_bus.specs.Effect.{action_of};
 
-use clock_port::CivilFields;
-
-/// What a port reads.
-#[derive(Clone, Copy)]
-pub(crate) enum Source {
-    /// The byte last stored in it.
-    Stored,
-    /// The pointer of the working ring.
-    WorkingPointer,
-    /// The pointer of the return ring.
-    ReturnPointer,
-    /// A byte of the size that the screen has.
-    ScreenSize(SizePart),
-    /// A byte of what a voice shows.
-    VoiceShows(Voice, VoicePart),
-    /// A byte of what the clock shows.
-    Shows(TimePart),
-    /// Always 0.
-    Zero,
-}
-
-/// A byte of the size of the screen; both ways are shorts.
-#[derive(Clone, Copy)]
-pub(crate) enum SizePart {
-    WidthHigh,
-    WidthLow,
-    HeightHigh,
-    HeightLow,
-}
+use uxn_limits::ports::{AUDIO_VECTOR, VOICE_PORTS};
 
 /// One of the four voices.
 #[derive(Clone, Copy)]
@@ -42,14 +13,6 @@ pub(crate) enum Voice {
     Second,
     Third,
     Fourth,
-}
-
-/// A byte of what a voice shows; its position is a short.
-#[derive(Clone, Copy)]
-pub(crate) enum VoicePart {
-    PositionHigh,
-    PositionLow,
-    Output,
 }
 
 impl Voice {
@@ -71,85 +34,7 @@ impl Voice {
         ensures base { result ≡ base_of self }
         ensures most { result ≤ 0x60 }
     {
-        match self {
-            Voice::First => 0x30,
-            Voice::Second => 0x40,
-            Voice::Third => 0x50,
-            Voice::Fourth => 0x60,
-        }
-    }
-}
-
-/// A byte of what the clock shows.
-#[derive(Clone, Copy)]
-pub(crate) enum TimePart {
-    YearHigh,
-    YearLow,
-    Month,
-    Day,
-    Hour,
-    Minute,
-    Second,
-    Weekday,
-    YearDayHigh,
-    YearDayLow,
-}
-
-/// A byte of what the clock shows; the year and the day of the year are shorts.
-pub(crate) fn time_byte(part: TimePart, shown: &CivilFields) -> u8
-    ensures { result ≡ time_byte part shown.now }
-{
-    match part {
-        TimePart::YearHigh => (shown.year / 256) as u8,
-        TimePart::YearLow => (shown.year % 256) as u8,
-        TimePart::Month => shown.month,
-        TimePart::Day => shown.day,
-        TimePart::Hour => shown.hour,
-        TimePart::Minute => shown.minute,
-        TimePart::Second => shown.second,
-        TimePart::Weekday => shown.weekday,
-        TimePart::YearDayHigh => (shown.year_day / 256) as u8,
-        TimePart::YearDayLow => (shown.year_day % 256) as u8,
-    }
-}
-
-impl Source {
-    #[inline(always)]
-    pub(crate) fn of(port: u8) -> Source
-        ensures { result ≡ port_source port }
-    {
-        match port {
-            0x04 => Source::WorkingPointer,
-            0x05 => Source::ReturnPointer,
-            0x22 => Source::ScreenSize(SizePart::WidthHigh),
-            0x23 => Source::ScreenSize(SizePart::WidthLow),
-            0x24 => Source::ScreenSize(SizePart::HeightHigh),
-            0x25 => Source::ScreenSize(SizePart::HeightLow),
-            0x32 => Source::VoiceShows(Voice::First, VoicePart::PositionHigh),
-            0x33 => Source::VoiceShows(Voice::First, VoicePart::PositionLow),
-            0x34 => Source::VoiceShows(Voice::First, VoicePart::Output),
-            0x42 => Source::VoiceShows(Voice::Second, VoicePart::PositionHigh),
-            0x43 => Source::VoiceShows(Voice::Second, VoicePart::PositionLow),
-            0x44 => Source::VoiceShows(Voice::Second, VoicePart::Output),
-            0x52 => Source::VoiceShows(Voice::Third, VoicePart::PositionHigh),
-            0x53 => Source::VoiceShows(Voice::Third, VoicePart::PositionLow),
-            0x54 => Source::VoiceShows(Voice::Third, VoicePart::Output),
-            0x62 => Source::VoiceShows(Voice::Fourth, VoicePart::PositionHigh),
-            0x63 => Source::VoiceShows(Voice::Fourth, VoicePart::PositionLow),
-            0x64 => Source::VoiceShows(Voice::Fourth, VoicePart::Output),
-            0xc0 => Source::Shows(TimePart::YearHigh),
-            0xc1 => Source::Shows(TimePart::YearLow),
-            0xc2 => Source::Shows(TimePart::Month),
-            0xc3 => Source::Shows(TimePart::Day),
-            0xc4 => Source::Shows(TimePart::Hour),
-            0xc5 => Source::Shows(TimePart::Minute),
-            0xc6 => Source::Shows(TimePart::Second),
-            0xc7 => Source::Shows(TimePart::Weekday),
-            0xc8 => Source::Shows(TimePart::YearDayHigh),
-            0xc9 => Source::Shows(TimePart::YearDayLow),
-            0xca => Source::Zero,
-            _ => Source::Stored,
-        }
+        AUDIO_VECTOR + VOICE_PORTS * self.number()
     }
 }
 

@@ -31,6 +31,7 @@ pub(crate) struct Time {
 
 impl Time {
     /// What the clock shows: a second passes in 60 frames.
+    #[inline(never)]
     pub(crate) fn shown(&self) -> CivilFields
         ensures { result ≡ civil_fields (self.now.seconds +ℤ pos (self.now.frames / 60)) self.now.offset }
     {

@@ -1,14 +1,14 @@
 //! The ports of the voices.
-ghost use Rattle.std.specs.Prelude.{◌≡◌, ◌≤◌, true, false, [], ◌∷◌};
+ghost use Rattle.std.specs.Prelude.{◌≡◌, ◌<◌, ◌≤◌, true, false, [], ◌∷◌};
 ghost use Rattle.audio_mixer.specs.Voices.{all_play_on};
-ghost use Rattle.audio_mixer.specs.Sounds.{frame_of, endings};
+ghost use Rattle.audio_mixer.specs.Sounds.{frame_of, endings, position_of, output_of};
 ghost use Rattle.varvara_bus.specs.State.{DeviceState, DevicesRepresent, device_clock, rendered};
-ghost use Rattle.varvara_bus.specs.Voices.{voice_number, note_at, voice_byte};
+ghost use Rattle.varvara_bus.specs.Voices.{note_at};
 ghost use Rattle.varvara_bus.specs.Effect.{note_started};
 
 use crate::devices::Devices;
 use crate::page::{stored, stored_short};
-use crate::ports::{Voice, VoicePart};
+use crate::ports::Voice;
 use audio_mixer::Start;
 use uxn_memory::Memory;
 
@@ -38,17 +38,22 @@ pub(crate) fn start_note(devices: &mut Devices, voice: Voice)
     devices.mixer.start(voice.number(), &note);
 }
 
-/// A byte of what a voice shows.
+/// The place in the sample of a voice, 0 to 3.
 #[inline(never)]
-pub(crate) fn voice_shown(devices: &Devices, voice: Voice, part: VoicePart) -> u8
-    ensures { (state : DeviceState) → DevicesRepresent devices.now state → result ≡ voice_byte part (state.sounds (voice_number voice)) }
+pub(crate) fn position(devices: &Devices, voice: u8) -> u16
+    requires { voice < 4 }
+    ensures { (state : DeviceState) → DevicesRepresent devices.now state → result ≡ position_of (state.sounds voice) }
 {
-    let voice = voice.number();
-    match part {
-        VoicePart::PositionHigh => (devices.mixer.position(voice) / 256) as u8,
-        VoicePart::PositionLow => (devices.mixer.position(voice) % 256) as u8,
-        VoicePart::Output => devices.mixer.output(voice),
-    }
+    devices.mixer.position(voice)
+}
+
+/// How loud a voice, 0 to 3, is.
+#[inline(never)]
+pub(crate) fn output(devices: &Devices, voice: u8) -> u8
+    requires { voice < 4 }
+    ensures { (state : DeviceState) → DevicesRepresent devices.now state → result ≡ output_of (state.sounds voice) }
+{
+    devices.mixer.output(voice)
 }
 
 /// Renders a frame of samples, and says which voices' notes ended in it.

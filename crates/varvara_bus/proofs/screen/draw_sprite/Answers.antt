@@ -1,9 +1,14 @@
-use Rattle.varvara_bus.proofs.Drawn.{drawn_on, sprite-read}
+use Rattle.varvara_bus.proofs.Drawn.{drawn_on}
 use Rattle.varvara_bus.proofs.screen.draw_sprite.Goals as goal
 
 pub returns-clause-stands : goal.returns-clause-stands
 returns-clause-stands c state stands =
-    rw (sprite-read state c.args.control c.args.memory.now _ _ _ _ _ (c.stored_short-x.ensures state stands) (c.stored_short-y.ensures state stands)
-    (c.stored_short-addr.ensures state stands) (c.stored-auto.ensures.stored state stands) c.sprite-next.ensures.moved)
-    (c.store_short-3.ensures.stands _ (c.store_short-2.ensures.stands _ (c.store_short.ensures.stands _
+    rw (
+      c.sprite-next.ensures.moved,
+      c.stored_short-x.ensures state stands,
+      c.stored_short-y.ensures state stands,
+      c.stored_short-addr.ensures state stands,
+      c.stored-auto.ensures.stored state stands,
+    )
+    at (c.store_short-3.ensures.stands _ (c.store_short-2.ensures.stands _ (c.store_short.ensures.stands _
     (drawn_on c.args.devices.now _ state _ _ _ stands (c.sprite-next.ensures.drawn state.picture stands.screen)))))
