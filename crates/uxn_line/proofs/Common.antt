@@ -25,8 +25,8 @@ pub use Rattle.uxn_line.specs.Handing.{HandedOn, KeptBack, WasNotPut, put_from}
 pub use Rattle.uxn_line.specs.Machines.{MachineHasDone, MachineRepresents, Rests, handed_in, handed_on}
 pub use Rattle.uxn_line.specs.MemberTurns.{HasRun, KeepsRing, MemberWasGiven}
 pub use Rattle.uxn_line.specs.Members.{BeginsWith, IsOpen, MemberAt, OpenAt, handed, handed_at, member_has_ended, next_pending}
-pub use Rattle.uxn_line.specs.Moves.{Came, Cause, Fails, Goes, HasTurned, IsUnderWay, IsWaiting, Leads, LineFinishes, LineReaches, MachineIsHeld}
-pub use Rattle.uxn_line.specs.Moves.{StaysUnderWay, TurnCame, WritesLast, is_move, last_machine, next_machine, ring_before, ring_of, turned_by}
+pub use Rattle.uxn_line.specs.Moves.{Came, Cause, Fails, Goes, HasTurned, IsUnderWay, IsWaiting, Leads, IsStill, LineFinishes, LineReaches, LineStops, MachineIsHeld, MovedOn}
+pub use Rattle.uxn_line.specs.Moves.{StaysUnderWay, TurnCame, WritesLast, is_move, last_machine, ring_before, ring_of, turned_by}
 pub use Rattle.uxn_line.specs.Moves.{written_in}
 pub use Rattle.uxn_line.specs.Places.{AreForConsole, IsForConsole, is_for_console, no_outputs, put_by, put_by_one, put_in, turn}
 pub use Rattle.uxn_line.specs.Standing.{AreToCome, ComeAfter, InLine, LineRepresents, RingBefore, Turned, inputs, line_job, machine_place}

@@ -1,20 +1,14 @@
 -- What a line has put is a prefix of the stream of its last machine.
-use Rattle.uxn_line.proofs.Common.{common_steps, ◌*◌, refl, next_machine, turned_by, is_move, Cause, Fails, Goes, HasTurned, TurnCame, StaysUnderWay}
+use Rattle.uxn_line.proofs.Common.{common_steps, ◌*◌, turned_by, is_move, Cause, Fails, Goes, HasTurned, TurnCame, StaysUnderWay}
 use Rattle.uxn_line.proofs.Common.{ring_before, LineFinishes, WorksOn, slice_get-some, is_err, sink-then, Moved, handed_on, ◌≡◌, ℕ, suc, ◌+◌, ◌-◌}
-use Rattle.uxn_line.proofs.Common.{◌<◌, Bool, true, false, cond, List, [], ◌∷◌, ◌++◌, sym, ap, subst, ◌∙◌, arith, append_assoc, length, Result, Ok}
+use Rattle.uxn_line.proofs.Common.{◌<◌, Bool, true, false, List, [], ◌∷◌, ◌++◌, sym, ap, subst, ◌∙◌, arith, append_assoc, length, Result, Ok}
 use Rattle.uxn_line.proofs.Common.{Err, SinkEnded, sink-as-it-was, SinkState, Line, PlaceHasEnded, put_in, LineJob, stream, Turned, machine_place}
-use Rattle.uxn_line.proofs.Common.{LineRepresents, last_machine, written_in, IsWaiting, MachineIsHeld, WritesLast, IsUnderWay, LineReaches, work_left}
+use Rattle.uxn_line.proofs.Common.{IsStill, LineRepresents, LineStops, last_machine, written_in, IsWaiting, MachineIsHeld, WritesLast, IsUnderWay, LineReaches, work_left}
 use Rattle.uxn_line.proofs.Common.{zero, exit_code_at}
-use borrow.Author.Count.{below_more}
 use Rattle.uxn_io_traits.specs.declared.sinks.Failed.{Failed}
 use Rattle.uxn_line.proofs.MachineTurns.{run-put}
 use Rattle.uxn_line.proofs.Turning.{follows, ended-whole}
 use Rattle.uxn_line.proofs.Running.{leads-nowhere}
-
--- no turn of a machine moves anything, for whatever numbers of turns the line stands: it waits, is held, or is at its end
-abbrev pub IsStill : Line → ℕ → Type 0
-IsStill line machine = (job : LineJob) (turned : Turned) → LineRepresents job line turned → (IsWaiting job line turned machine → ⊥)
-    → (MachineIsHeld job line turned machine → ⊥) → PlaceHasEnded (machine_place job turned machine)
 
 pub move-still : (line : Line) (machine : ℕ) (moved : Moved) → is_move moved ≡ false
     → ((job : LineJob) (turned : Turned) → LineRepresents job line turned → Cause job line turned machine moved) → IsStill line machine
@@ -94,28 +88,24 @@ turn-way machine line line_now out out_now (Ok moved) turn job begun way =
     way-on job begun line line_now out out_now way (turn-reaches machine moved line line_now out out_now turn)
 turn-way machine line line_now out out_now (Err failed) fails job begun way = way-fails job begun machine line line_now out out_now way fails
 
--- how much is left of the turns of the first machine that moves: each move makes the work less, where a machine moves no more the first
--- one is next, and after a machine that is still the one behind it
-abbrev pub turns_left : Line → Bool → ℕ → ℕ
-turns_left line moved index =
-    (2 * work_left line + cond moved 1 0) * (length line.members.items + 1) + (length line.members.items - index)
+-- a move behind others, or behind none
+pub works-more : (moved : Bool) (a b c : Line) → WorksOn moved a b → WorksOn true b c → WorksOn true a c
+works-more true a b c = grind (arith, common_steps)
+works-more false a b c = grind (arith, common_steps)
 
-fewer-left : (machines index index_now less more : ℕ) → less < more
-    → less * (machines + 1) + (machines - index_now) < more * (machines + 1) + (machines - index)
-fewer-left = grind (arith, common_steps)
+-- of a line under way that stopped
+pub way-stops : (job : LineJob) (begun : SinkState) (a b : Line) (o p : SinkState) → IsUnderWay job begun a o → LineStops a b o p
+    → SinkEnded (stream job (last_machine job)) true begun p
+way-stops job begun a b o p way stops =
+    way-fails job begun stops.machine b b stops.here p (way-on job begun a b o stops.here way stops.reaches) stops.fails
 
-pub turn-less : (line now : Line) (index : ℕ) (moves moved : Bool) → index < length line.members.items → WorksOn moves line now
-    → length now.members.items ≡ length line.members.items → turns_left now moves (next_machine index moves moved) < turns_left line moved index
-turn-less line now index true moved within works same = rw same (fewer-left _ index index (2 * work_left now + 1) _ (omega arith))
-turn-less line now index false true within works same =
-    rw works (fewer-left _ index 0 (2 * work_left line + 0) (2 * work_left line + 1) (omega arith))
-turn-less line now index false false within works same = rw works (omega arith)
+pub reach-stops : (a b c : Line) (o p q : SinkState) → LineReaches a b o p → LineStops b c p q → LineStops a c o q
+reach-stops a b c o p q first stops =
+    record { here = stops.here; reaches = reach-then a b c o p stops.here first stops.reaches; machine = stops.machine; fails = stops.fails }
 
--- the machines before the one that gets the next turn are still
-pub turn-still : (line now : Line) (index : ℕ) (moved : Bool) → (moved ≡ false → (machine : ℕ) → machine < index → IsStill line machine)
-    → IsStill line index → now ≡ line → (machine : ℕ) → machine < next_machine index false moved → IsStill now machine
-turn-still line now index true before still same machine within = absurd (omega arith)
-turn-still line now index false before still same machine within = rw same (below_more (IsStill line) index (before refl) still machine within)
+-- how much is left of the turns: each move makes the work less, and after a machine that is still the one behind it is next
+abbrev pub turns_left : Line → ℕ → ℕ
+turns_left line index = work_left line * (length line.members.items + 1) + (length line.members.items - index)
 
 -- where no machine of a line moves all their runs are over
 module _ (job : LineJob) (line : Line) (turned : Turned) (stands : LineRepresents job line turned)

@@ -1,5 +1,5 @@
 -- What the turns of a line result in, and what they put (profile).
-use Rattle.std.specs.Prelude.{◌≡◌, ◌≢◌, ℕ, zero, suc, ◌-◌, ◌+◌, ◌<◌, ◌≤◌, Bool, true, false}
+use Rattle.std.specs.Prelude.{◌≡◌, ◌≢◌, ℕ, zero, suc, ◌-◌, ◌<◌, ◌≤◌, Bool, true, false}
 use Rattle.std.specs.Prelude.{List, [], ◌∷◌, ◌++◌, if◌then◌else◌, length, slice_get}
 use Rattle.std.specs.Prelude.{Option, Some, None, Result, Ok, Err}
 use Rattle.uxn_io_traits.specs.Ended.{SinkEnded}
@@ -139,11 +139,17 @@ StaysUnderWay job begun line now true = SinkEnded (stream job (last_machine job)
 abbrev pub LineReaches : Line → Line → SinkState → SinkState → Type 0
 LineReaches before now out out_now = (to : Turned → Turned) × Goes to before now out out_now
 
--- the machine that gets the next turn, by whether this one moved now, and whether it did in the turn before
-abbrev pub next_machine : ℕ → Bool → Bool → ℕ
-next_machine index true moved = index
-next_machine index false true = 0
-next_machine index false false = index + 1
+-- no turn of a machine moves anything, for whatever numbers of turns the line stands: it waits, is held, or is at its end
+abbrev pub IsStill : Line → ℕ → Type 0
+IsStill line machine = (job : LineJob) (turned : Turned) → LineRepresents job line turned → (IsWaiting job line turned machine → ⊥)
+    → (MachineIsHeld job line turned machine → ⊥) → PlaceHasEnded (machine_place job turned machine)
+
+-- a machine was given turns as long as it moved, and moved or not
+pub record MovedOn (machine : ℕ) (moved : Bool) (before now : Line) (out out_now : SinkState) : Type 0 where
+  pub reaches : LineReaches before now out out_now
+  pub still : IsStill now machine
+  pub works : WorksOn moved before now
+  pub machines : length now.members.items ≡ length before.members.items
 
 -- every machine stands at the end of its run
 abbrev pub AllEnded : LineJob → Turned → Type 0

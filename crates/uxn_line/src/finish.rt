@@ -1,10 +1,10 @@
 //! A line to its end.
-ghost use Rattle.std.specs.Prelude.{◌≡◌, ◌<◌, ◌^◌, IfOk, OnErr, is_err};
+ghost use Rattle.std.specs.Prelude.{◌≡◌, ◌<◌, IfOk, OnErr, is_err, length};
 ghost use Rattle.uxn_io_traits.specs.Ended.{SinkEnded};
 ghost use Rattle.uxn_io_traits.specs.State.{SinkState};
 ghost use Rattle.uxn_line.specs.Streams.{LineJob, exit_code_at, run_of_machine, stream};
 ghost use Rattle.uxn_line.specs.Standing.{Turned, LineRepresents, machine_place};
-ghost use Rattle.uxn_line.specs.Moves.{LineFinishes, IsUnderWay, LineStops, last_machine, next_machine};
+ghost use Rattle.uxn_line.specs.Moves.{LineFinishes, IsUnderWay, LineStops, MovedOn, last_machine};
 
 use crate::line::Line;
 use system_port::exit_code;
@@ -26,15 +26,29 @@ impl<'a> Line<'a> {
         ensures code { IfOk result (λ code. (job : LineJob) (begun : SinkState) → IsUnderWay job begun self.old (O.state out.old)
             → code ≡ exit_code_at (run_of_machine job (last_machine job)).last) }
     {
-        // The machines before `index` are still, unless the last turn moved one.
+        // The machines before `index` are still.
         let mut index = 0;
-        let mut moved = false;
-        'turns: while index < self.members.len() {
-            let moves = self.turn_at(index, out)?.is_move();
-            index = next_machine(index, moves, moved);
-            moved = moves;
+        'machines: while index < self.members.len() {
+            index = if self.move_on(index, out)? {
+                0
+            } else {
+                index + 1
+            };
         }
         Ok(self.exit_code())
+    }
+
+    // Gives a machine turns as long as it moves, and answers whether it moved at all.
+    fn move_on<O: Sink>(&mut self, index: usize, out: &mut O) -> Result<bool, Failed>
+        requires { index < length self.old.members.items }
+        ensures moved { IfOk result (λ moved. MovedOn index moved self.old self.new (O.state out.old) (O.state out.new)) }
+        ensures stops { OnErr result (LineStops self.old self.new (O.state out.old) (O.state out.new)) }
+    {
+        let mut moved = false;
+        'moves: while self.turn_at(index, out)?.is_move() {
+            moved = true;
+        }
+        Ok(moved)
     }
 
     // The exit code of the last machine, where it is idle.
@@ -48,20 +62,5 @@ impl<'a> Line<'a> {
             return 0;
         }
         exit_code(self.members[count - 1].state)
-    }
-}
-
-// The machine that gets the next turn, from 0: the same one as long as it moves, then the first one; and where one did not move at all
-// the one behind it.
-fn next_machine(index: usize, moves: bool, moved: bool) -> usize
-    requires { index < 2 ^ 63 }
-    ensures { result ≡ next_machine index moves moved }
-{
-    if moves {
-        index
-    } else if moved {
-        0
-    } else {
-        index + 1
     }
 }

@@ -4,7 +4,7 @@ ghost use Rattle.uxn_opcodes.specs.declared.operation.Width.TheVariants.{Byte, S
 ghost use Rattle.uxn_opcodes.specs.Instruction.{writes_of};
 ghost use Rattle.uxn_opcodes.specs.Words.{word_below};
 ghost use Rattle.uxn_opcodes.specs.Rule.{begun_by, past_opcode};
-ghost use Rattle.uxn_opcodes.specs.Model.{writes_in};
+ghost use Rattle.uxn_opcodes.specs.Instruction.{writes_in};
 ghost use Rattle.uxn_line.specs.Machines.{handed_in, handed_on};
 
 use uxn_limits::ports::CONSOLE_WRITE;

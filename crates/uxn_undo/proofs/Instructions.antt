@@ -1,5 +1,5 @@
 -- An instruction changes bank 0 only within the bytes that are kept for it.
-use Rattle.uxn_undo.proofs.Common.{◌≡◌, ℕ, ◌+◌, ◌-◌, ◌%◌, ◌==◌, ◌<◌, true, false, cond, List, [], Option, None, Some}
+use Rattle.uxn_undo.proofs.Common.{◌≡◌, ℕ, ◌+◌, ◌-◌, ◌%◌, ◌==◌, ◌<◌, true, false, cond, List, Option, None, Some}
 use Rattle.uxn_undo.proofs.Common.{refl, inl, inr, arith, cases_Bool, get_or-map-range_with_len, length-map-range_with_len, Core, Cells}
 use Rattle.uxn_undo.proofs.Common.{byte_below, Width, Byte, Short, mode_of, OpEffect, ruled, sides_of, core_of, Span, span_in_bank, IsMachine}
 use Rattle.uxn_undo.proofs.Common.{HoldsBytes}
@@ -9,12 +9,12 @@ use Rattle.varvara_bus.specs.History.{stored}
 use Rattle.varvara_bus.specs.State.{DeviceState}
 use Rattle.varvara_bus.specs.Touched.{touched_by_word}
 use Rattle.varvara_bus.specs.MemoryLaws.{IsPageOf, after_word, word-within, word-stacks}
-use Rattle.varvara_bus.specs.Model.{Devised, varvara, instruction_effect}
+use Rattle.varvara_bus.specs.Model.{no_changes, varvara, instruction_effect}
 use Rattle.uxn_opcodes.specs.declared.operation.Mode.{Mode as OpMode}
 use Rattle.uxn_opcodes.specs.declared.operation.Op.{Op}
 use Rattle.uxn_opcodes.specs.declared.operation.Op.TheVariants.{Store, Dei, Deo}
 use Rattle.uxn_opcodes.specs.declared.operation.StoreOp.TheVariants.{Stz, Str, Sta}
-use Rattle.uxn_opcodes.specs.Words.{size_of, word_below, relative, memory_with_word, with_zero_word}
+use Rattle.uxn_opcodes.specs.Words.{size_of, word_below, relative, memory_with_word}
 use Rattle.uxn_opcodes.specs.Table.{op_of}
 use Rattle.uxn_opcodes.specs.Rule.{op_effect_of, row_begun, begun_by, begun, opcode_at, past_opcode}
 use Rattle.uxn_opcodes.specs.Model.{word_read, access_done, after_instruction}
@@ -64,13 +64,13 @@ plain-leaves mode core op_effect span is same =
     store-leaves mode core op_effect span is (rw same (same-memory span (sides_of mode.returns core).memory))
 
 zero-changes : (width : Width) (memory : List ℕ) (place value : ℕ) → place < 256
-    → Changes (span_in_page place (size_of width)) memory (with_zero_word width memory place value)
-unfolding with_zero_word
+    → Changes (span_in_page place (size_of width)) memory (memory_with_word 256 width memory place value)
+unfolding memory_with_word
 zero-changes Byte memory place value small = search (arith, rules, one-set, same-memory)
 zero-changes Short memory place value small = search (arith, rules, one-set, same-memory)
 
 word-changes : (width : Width) (memory : List ℕ) (place value : ℕ) → place < 65536
-    → Changes (span_in_bank place (size_of width)) memory (memory_with_word width memory place value)
+    → Changes (span_in_bank place (size_of width)) memory (memory_with_word 65536 width memory place value)
 unfolding memory_with_word
 word-changes Byte memory place value small = search (arith, rules, one-set, same-memory)
 word-changes Short memory place value small = search (arith, rules, one-set, same-memory)
@@ -86,9 +86,6 @@ short-small ring depth holds =
     let high : byte_below ring (depth + 1) < 256 = holds _ in
     let low : byte_below ring depth < 256 = holds _ in
     omega arith
-
-abbrev no_changes : DeviceState → Devised
-no_changes devices = record { devices = devices; changes = [] }
 
 abbrev RowLeaves : Op → OpMode → Core → DeviceState → Type 0
 RowLeaves op mode core devices =

@@ -153,12 +153,12 @@ module _ (rows : List Row) where
       ∙ ap (λ b. byte_back (take k (moments_in rows (drop (i + 1) records) (drop (begin + entry_count r) bytes))) at b) same)
 
   -- what the two stacks hold
-  pub length-held : (records : List Record) (bytes : List ℕ) (held : List Kept) → moments_in rows records bytes ≡ held → length records ≡ length held
-  length-held records bytes held is = sym (length-moments records bytes) ∙ ap (λ (z : List Kept). length z) is
+  pub length_held : (records : List Record) (bytes : List ℕ) (held : List Kept) → moments_in rows records bytes ≡ held → length records ≡ length held
+  length_held records bytes held is = sym (length-moments records bytes) ∙ ap (λ (z : List Kept). length z) is
 
-  pub bytes-held : (records : Buffer Record) (bytes : Buffer ℕ) (held : List Kept) → moments_in rows records.items bytes.items ≡ held
+  pub bytes_held : (records : Buffer Record) (bytes : Buffer ℕ) (held : List Kept) → moments_in rows records.items bytes.items ≡ held
       → AreRings records bytes → sum_by byte_count held ≡ length bytes.items
-  bytes-held = search (arith, rules, counts-moments)
+  bytes_held = search (arith, rules, counts-moments)
 
   pub forgotten-rings : (records : Buffer Record) (bytes : Buffer ℕ) (last : Record) → AreRings records bytes
       → slice_get records.items (length records.items - 1) ≡ Some last

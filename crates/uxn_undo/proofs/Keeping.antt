@@ -5,7 +5,7 @@ use Rattle.uxn_undo.proofs.Common.{most_bytes, Row, Record, entry_count, moment_
 use Rattle.uxn_undo.specs.Kept.{held_of, holding}
 use Rattle.uxn_undo.specs.Slots.{InOrder}
 use Rattle.uxn_undo.proofs.Holding.{IsHeld, is-held, held-next}
-use Rattle.uxn_undo.proofs.Joined.{length-held, bytes-held}
+use Rattle.uxn_undo.proofs.Joined.{length_held, bytes_held}
 use Rattle.uxn_undo.proofs.Slots.{SameBut, put_moment}
 
 module _ (rows : List Row) (records : Buffer Record) (bytes : Buffer ℕ) (before held : List Kept) (count : ℕ)
@@ -19,8 +19,8 @@ module _ (rows : List Row) (records : Buffer Record) (bytes : Buffer ℕ) (befor
   pub has-room : HasRoom
   has-room =
       let fits : IsHeld 65535 (most_bytes - count) before held = rw left (is-held 65535 (most_bytes - count) before) in
-      let size : length records.items ≡ length held = length-held rows records.items bytes.items held is in
-      let filled : sum_by byte_count held ≡ length bytes.items = bytes-held rows records bytes held is lie in
+      let size : length records.items ≡ length held = length_held rows records.items bytes.items held is in
+      let filled : sum_by byte_count held ≡ length bytes.items = bytes_held rows records bytes held is lie in
       record { few = omega (arith, fits.few); room = omega (arith, fits.small, lie.room) }
 
   -- and one more is put there

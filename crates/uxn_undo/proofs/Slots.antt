@@ -33,10 +33,10 @@ pub fewer_slots : (n size room next : ℕ) (records : List Record) → 0 < n →
 fewer_slots = search (arith, rules, in_order-take, length-take)
 
 -- one moment alone keeps few bytes
-pub alone-small : (size next : ℕ) (records : List Record) → InOrder size next records → length records ≤ 1 → sum_by entry_count records < 65536
-alone-small size next [] order few = omega arith
-alone-small size next (newest ∷ []) order few = omega (arith, sum_by-cons entry_count newest [], order.2)
-alone-small size next (newest ∷ next_one ∷ older) order few = absurd (omega (arith, few))
+pub alone_small : (size next : ℕ) (records : List Record) → InOrder size next records → length records ≤ 1 → sum_by entry_count records < 65536
+alone_small size next [] order few = omega arith
+alone_small size next (newest ∷ []) order few = omega (arith, sum_by-cons entry_count newest [], order.2)
+alone_small size next (newest ∷ next_one ∷ older) order few = absurd (omega (arith, few))
 
 pub slot_within : (size next : ℕ) (records : List Record) (i : ℕ) (r : Record) → InOrder size next records → slice_get records i ≡ Some r → r.slot < size
 slot_within size next [] i r order is = cc

@@ -1,5 +1,6 @@
 -- What is kept of the moments of a run, the newest first (profile).
 use Rattle.std.specs.Prelude.{ℕ, zero, suc, ◌-◌, nat_le, if◌then◌else◌, List, [], ◌∷◌, slice_index}
+use Rattle.uxn_limits.specs.declared.limits.TheConstants.{MOST_MOMENTS, MOST_HELD}
 use Rattle.uxn_stacks.specs.Cells.{Cells}
 use Rattle.uxn_opcodes.specs.declared.Core.{Core}
 use Rattle.uxn_undo.specs.declared.span.Span.{Span}
@@ -31,10 +32,10 @@ byte_count kept = kept.span.count
 
 -- the most moments and the most bytes of bank 0 that are kept
 abbrev pub most_moments : ℕ
-most_moments = 65536
+most_moments = MOST_MOMENTS
 
 abbrev pub most_bytes : ℕ
-most_bytes = 16777216
+most_bytes = MOST_HELD
 
 -- the newest of these moments, where there is room for so many and so many bytes: moments are held from the newest on, until one more
 -- is one too many, or its bytes are

@@ -43,15 +43,10 @@ use crate::span::Span;
 use circular_buffer::HeapCircularBuffer;
 use std::alloc::{AllocError, Global};
 use std::marker::Model;
+use uxn_limits::limits::{MOST_HELD, MOST_MOMENTS};
 use uxn_memory::Memory;
 use uxn_opcodes::{Core, Ports};
 use uxn_stacks::Ring;
-
-/// The most moments that are kept.
-const MOMENTS: usize = 65_536;
-
-/// The most bytes of bank 0 that are kept.
-const BYTES: usize = 16_777_216;
 
 // What is kept of a moment beside the bytes of bank 0 that its instruction may change. Its stacks and stored bytes stand in a
 // slot.
@@ -92,9 +87,9 @@ impl Undo {
     pub fn new(alloc: Global) -> Result<Undo, AllocError>
         ensures { IfOk result (λ undo. undo ≡ []) }
     {
-        let records = HeapCircularBuffer::with_capacity(alloc, MOMENTS)?;
-        let bytes = HeapCircularBuffer::with_capacity(alloc, BYTES)?;
-        let rows = Vec::with_capacity(alloc, MOMENTS)?;
+        let records = HeapCircularBuffer::with_capacity(alloc, MOST_MOMENTS)?;
+        let bytes = HeapCircularBuffer::with_capacity(alloc, MOST_HELD)?;
+        let rows = Vec::with_capacity(alloc, MOST_MOMENTS)?;
         Ok(Undo {
             records,
             bytes,
@@ -126,6 +121,7 @@ impl Undo {
     }
 
     /// How many moments are kept.
+    #[tactic(auto, using(crate::proofs::Joined::length_held))]
     pub fn held(&self) -> u32
         ensures { result ≡ length self.now }
     {
@@ -142,6 +138,7 @@ impl Undo {
     }
 
     /// Its working stack.
+    #[tactic(auto, using(crate::proofs::Slots::part_of))]
     pub fn working(&self, back: u32) -> Ring
         requires first { 0 < back }
         requires last { back ≤ length self.now }
@@ -151,6 +148,7 @@ impl Undo {
     }
 
     /// Its return stack.
+    #[tactic(auto, using(crate::proofs::Slots::part_of))]
     pub fn returns(&self, back: u32) -> Ring
         requires first { 0 < back }
         requires last { back ≤ length self.now }
@@ -210,12 +208,13 @@ impl Undo {
 
     // Whether there is room for one more moment that keeps so many bytes.
     #[inline(always)]
+    #[tactic(auto, using(crate::proofs::Joined::bytes_held, crate::proofs::Joined::length_held, crate::proofs::Slots::alone_small))]
     fn has_room(&self, count: usize) -> bool
         requires { count < 65536 }
         ensures room { result ≡ (nat_lt (length self.now) most_moments && nat_le (sum_by byte_count self.now + count) most_bytes) }
         ensures alone { length self.now ≤ 1 → result ≡ true }
     {
-        self.records.len() < MOMENTS && self.bytes.len() + count <= BYTES
+        self.records.len() < MOST_MOMENTS && self.bytes.len() + count <= MOST_HELD
     }
 
     // Drops the oldest of several moments.

@@ -48,7 +48,7 @@ with_compared port byte state =
     record state { tally = counting_expect (read_of state.devices state.core port == byte) (counting_event (Expect port byte) state.tally) }
 
 module _ {T O E W H : Type 0} (models : Models T O E W H) where
-  answers-counted : (a : Runner T O E W) (event : Event)
+  pub answers-counted : (a : Runner T O E W) (event : Event)
       → Answers models a (record a { tally = counting_event event a.tally }) (λ s. stays (with_counted event s)) one_event (Ok (tt {0}))
   answers-counted a event = search (arith, rules, grown-counted, same-itself, ledger-same, makes-nothing)
 

@@ -1,6 +1,6 @@
 -- The run of a script, and its end.
 use Rattle.vector_loop.proofs.Common.{Answers, Bus, Core, Count, Err, FollowsFrom, Models, NoMemory, Ok, Page, Runner, Running, State, Stop, Tally}
-use Rattle.vector_loop.proofs.Common.{Trace, ap, contents_on, inr, page_in, refl, running, running_state, shown_all, sym, ◌∙◌, ◌≡◌, arith, rules}
+use Rattle.vector_loop.proofs.Common.{Trace, ap, contents_on, inr, page_in, refl, running, running_state, sym, ◌∙◌, ◌≡◌, arith, rules}
 use Rattle.varvara_bus.specs.Bus.{ReadsPort, held_page}
 use Rattle.vector_loop.specs.Watch.{IsPage, moment_of}
 use Rattle.vector_loop.specs.Follows.{EndsFrom, FallsShortFrom}
@@ -20,15 +20,11 @@ module _ {T O E W H : Type 0} (models : Models T O E W H) where
         let f = follows.from devices stands in
         let last = (part (running_state before devices)).last in
         record {
-          core = f.core;
-          devices = f.devices;
-          tally = f.tally;
-          makes = f.makes;
+          watched = now.watcher;
+          follows = f;
           watcher = shown_end (page_in (running_state now last.devices))
               (is_page (contents_on models.meaning.tree) now.bus (running_state now last.devices) f.devices)
-              ∙ ap (λ h. models.ended h now.core (page_in (running_state now last.devices)) (moment_of (running_state now last.devices))) f.watcher
-              ∙ ap (λ (s : State). models.ended
-              (shown_all models.shown (models.held before.watcher) (part (running_state before devices)).moments) s.core (page_in s) (moment_of s))
+              ∙ ap (λ (s : State). models.ended (models.held now.watcher) s.core (page_in s) (moment_of s))
               (reached models before now (part (running_state before devices)) f);
         };
   }

@@ -8,6 +8,7 @@ use Rattle.console_port.specs.declared.EventKind.TheVariants as event_kind
 use Rattle.play_script.specs.declared.script.Event.{Event}
 use Rattle.play_script.specs.declared.script.Event.TheVariants.{Input, EndInput, Frame, Device, Shot, Expect}
 use Rattle.audio_mixer.specs.Sounds.{frame_of, endings}
+use Rattle.uxn_limits.specs.declared.ports.TheConstants.{CONSOLE_VECTOR, CONSOLE_READ, CONSOLE_TYPE, SCREEN_VECTOR, AUDIO_VECTOR, VOICE_PORTS}
 use Rattle.varvara_bus.specs.History.{stored, stored_short}
 use Rattle.varvara_bus.specs.ReadsPort.{read_of}
 use Rattle.vector_loop.specs.declared.output.Outputs.{Outputs}
@@ -34,7 +35,7 @@ give_each given (first ∷ rest) state = followed_by (unless_over (given first) 
 
 -- the console is given a byte of this kind
 unfoldable pub console : ℕ → ℕ → EventKind → State → Trace
-console budget byte kind state = vector_in budget 0x10 (with_stored ((0x12, byte) ∷ (0x17, event_byte kind) ∷ []) state)
+console budget byte kind state = vector_in budget CONSOLE_VECTOR (with_stored ((CONSOLE_READ, byte) ∷ (CONSOLE_TYPE, event_byte kind) ∷ []) state)
 
 -- the controller or the mouse is given an input, which is settled after its vector
 unfoldable pub device : ℕ → DeviceInput → State → Trace
@@ -49,7 +50,7 @@ samples_kept outputs state =
 
 -- the vector of a voice whose note has ended
 abbrev pub vector_where : ℕ → Bool → ℕ → State → Trace
-vector_where budget ended voice state = if ended then vector_in budget (0x30 + 0x10 * voice) state else stays state
+vector_where budget ended voice state = if ended then vector_in budget (AUDIO_VECTOR + VOICE_PORTS * voice) state else stays state
 
 -- the vectors of the voices whose notes have ended, in order of their numbers
 abbrev pub ended_vectors : ℕ → List Bool → State → Trace
@@ -61,7 +62,7 @@ heard budget outputs state = followed_by (samples_kept outputs state) (ended_vec
 
 -- the screen's vector is run, and then all is done that is heard
 unfoldable pub shown_and_heard : ℕ → Outputs → State → Trace
-shown_and_heard budget outputs state = followed_by (vector_in budget 0x20 state) (unless_over (heard budget outputs))
+shown_and_heard budget outputs state = followed_by (vector_in budget SCREEN_VECTOR state) (unless_over (heard budget outputs))
 
 -- a frame begins first
 unfoldable pub frame : ℕ → Outputs → State → Trace

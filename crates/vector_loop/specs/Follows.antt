@@ -99,14 +99,11 @@ module _ {T O E W H : Type 0} (models : Models T O E W H) where
     pub from : (devices : DeviceState) → BusRepresents (contents_on models.meaning.tree) before.bus devices
         → Follows before now (part (running_state before devices))
 
-  -- all of a run was done, and the watcher was shown its end
+  -- all of a run was done, and then the watcher was shown its end
   pub record Ends (before now : Running T O E W) (trace : Trace) : Type 0 where
-    pub core : now.core ≡ trace.last.core
-    pub devices : BusRepresents (contents_on models.meaning.tree) now.bus trace.last.devices
-    pub tally : now.tally ≡ trace.last.tally
-    pub makes : Makes models.meaning before.bus now.bus trace.changes
-    pub watcher : models.held now.watcher ≡ models.ended (shown_all models.shown (models.held before.watcher) trace.moments)
-        trace.last.core (page_in trace.last) (moment_of trace.last)
+    pub watched : W
+    pub follows : Follows before (record now { watcher = watched }) trace
+    pub watcher : models.held now.watcher ≡ models.ended (models.held watched) trace.last.core (page_in trace.last) (moment_of trace.last)
 
   pub record EndsFrom (before now : Running T O E W) (part : State → Trace) : Type 0 where
     pub from : (devices : DeviceState) → BusRepresents (contents_on models.meaning.tree) before.bus devices

@@ -3,6 +3,7 @@ use Rattle.std.specs.Prelude.{◌≡◌, ℕ, zero, suc, ◌==◌, ◌≤◌, tr
 use Rattle.std.specs.Prelude.{if◌then◌else◌, Option, Some, None}
 use Rattle.console_port.specs.Console.{event_byte}
 use Rattle.play_script.specs.Scripts.{ScriptView}
+use Rattle.uxn_limits.specs.declared.ports.TheConstants.{CONSOLE_VECTOR, CONSOLE_READ, CONSOLE_TYPE}
 use Rattle.varvara_bus.specs.History.{stored_short}
 use Rattle.vector_loop.specs.declared.pending_input.PendingInput.{PendingInput}
 use Rattle.vector_loop.specs.declared.output.Outputs.{Outputs}
@@ -47,12 +48,12 @@ come_to state done = record done { last = state }
 
 -- the console holds a byte and its kind
 abbrev pub holding : ConsoleByte → State → State
-holding byte state = with_stored ((0x12, byte.0) ∷ (0x17, event_byte byte.1) ∷ []) state
+holding byte state = with_stored ((CONSOLE_READ, byte.0) ∷ (CONSOLE_TYPE, event_byte byte.1) ∷ []) state
 
 -- its vector begins, unless it is 0
 unfoldable pub vector_begins : ℕ → State → Trace → List PendingInput → Place
 vector_begins budget held done later =
-    let address = stored_short held.devices.history 0x10 in
+    let address = stored_short held.devices.history CONSOLE_VECTOR in
     if address == 0 then place (come_to held done) 0 later else place (come_to (begun_at address held) done) budget later
 
 -- the console holds a byte, and its vector begins; what is not for the console is done in one step

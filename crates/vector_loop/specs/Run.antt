@@ -3,6 +3,7 @@ use Rattle.std.specs.Prelude.{ℕ, List, [], ◌∷◌}
 use Rattle.console_port.specs.Console.{event_byte}
 use Rattle.console_port.specs.declared.EventKind.TheVariants as event_kind
 use Rattle.play_script.specs.Scripts.{ScriptView}
+use Rattle.uxn_limits.specs.declared.ports.TheConstants.{CONSOLE_TYPE}
 use Rattle.varvara_bus.specs.History.{Store}
 use Rattle.vector_loop.specs.declared.output.Outputs.{Outputs}
 use Rattle.vector_loop.specs.State.{State, with_stored}
@@ -15,7 +16,7 @@ use Rattle.vector_loop.specs.PendingInputs.{pending_inputs_of, given, counts_of}
 -- with arguments port 17 holds the kind of input in the reset vector
 abbrev pub made_ready : List (List ℕ) → List Store
 made_ready [] = []
-made_ready (text ∷ texts) = (0x17, event_byte event_kind.Input) ∷ []
+made_ready (text ∷ texts) = (CONSOLE_TYPE, event_byte event_kind.Input) ∷ []
 
 -- the whole run from a state on
 unfoldable pub run : ℕ → Outputs → ScriptView → State → Trace

@@ -10,6 +10,7 @@ use Rattle.console_port.specs.declared.EventKind.TheVariants as event_kind
 use Rattle.play_script.specs.declared.script.Event.{Event}
 use Rattle.play_script.specs.declared.script.Event.TheVariants.{Input, EndInput, Frame, Device, Shot, Expect}
 use Rattle.play_script.specs.Scripts.{ScriptView}
+use Rattle.uxn_limits.specs.declared.ports.TheConstants.{CONSOLE_VECTOR, CONSOLE_READ, CONSOLE_TYPE, SCREEN_VECTOR, AUDIO_VECTOR, VOICE_PORTS}
 use Rattle.varvara_bus.specs.History.{Store, stored, stored_short}
 use Rattle.varvara_bus.specs.ReadsPort.{read_of}
 use Rattle.varvara_bus.specs.State.{DeviceState}
@@ -115,7 +116,8 @@ module _ (outputs : Outputs) (Q : State → Trace → Type 0) (holds : HoldsOn o
   console-holds : (budget byte : ℕ) (kind : EventKind) → All (console budget byte kind)
   unfolding console
   console-holds budget byte kind =
-      stored-holds ((0x12, byte) ∷ (0x17, event_byte kind) ∷ []) (vector_in budget 0x10) (vector_in-holds budget 0x10)
+      stored-holds ((CONSOLE_READ, byte) ∷ (CONSOLE_TYPE, event_byte kind) ∷ [])
+      (vector_in budget CONSOLE_VECTOR) (vector_in-holds budget CONSOLE_VECTOR)
 
   device-holds : (budget : ℕ) (input : DeviceInput) → All (device budget input)
   unfolding device
@@ -142,13 +144,13 @@ module _ (outputs : Outputs) (Q : State → Trace → Type 0) (holds : HoldsOn o
       (holds.alike state after (samples_kept outputs state) (alike-by state state.core.at after.devices state.tally refl refl refl refl)
       (holds.samples (samples_bytes (frame_of state.core.memory state.devices.sounds)) after))
       (each-holds (λ voice. vector_where budget (slice_index_or ended voice false) voice) (0 ∷ 1 ∷ 2 ∷ 3 ∷ []) (λ voice s.
-      either (slice_index_or ended voice false) s (vector_in budget (0x30 + 0x10 * voice) s) (stays s)
-      (vector_in-holds budget (0x30 + 0x10 * voice) s) (holds.nothing s)))
+      either (slice_index_or ended voice false) s (vector_in budget (AUDIO_VECTOR + VOICE_PORTS * voice) s) (stays s)
+      (vector_in-holds budget (AUDIO_VECTOR + VOICE_PORTS * voice) s) (holds.nothing s)))
 
   shown-holds : (budget : ℕ) → All (shown_and_heard budget outputs)
   unfolding shown_and_heard
   shown-holds budget state =
-      holds.then state (vector_in budget 0x20 state) (unless_over (heard budget outputs)) (vector_in-holds budget 0x20 state)
+      holds.then state (vector_in budget SCREEN_VECTOR state) (unless_over (heard budget outputs)) (vector_in-holds budget SCREEN_VECTOR state)
       (unless_over-holds (heard budget outputs) (heard-holds budget))
 
   shot-holds : All (shot outputs)

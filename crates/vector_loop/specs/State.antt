@@ -1,5 +1,6 @@
 -- A machine in the middle of a run.
 use Rattle.std.specs.Prelude.{◌+◌, ◌==◌, Bool, true, false, not, List}
+use Rattle.uxn_limits.specs.declared.ports.TheConstants.{SYSTEM_STATE}
 use Rattle.uxn_opcodes.specs.declared.Core.{Core}
 use Rattle.varvara_bus.specs.History.{Store, stored}
 use Rattle.varvara_bus.specs.State.{DeviceState, storing, next_frame, rendered, screen_refreshed}
@@ -30,9 +31,9 @@ with_rendered state = record state { devices = rendered state.devices }
 abbrev pub with_refreshed : State → State
 with_refreshed state = record state { devices = screen_refreshed state.devices }
 
--- the byte in port 0f is not 0, which ends the run
+-- the byte in the port of the state is not 0, which ends the run
 abbrev pub is_over : State → Bool
-is_over state = not (stored state.devices.history 0x0f == 0)
+is_over state = not (stored state.devices.history SYSTEM_STATE == 0)
 
 -- one more is counted
 abbrev pub counting_instruction : Tally → Tally

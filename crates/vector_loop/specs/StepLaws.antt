@@ -6,6 +6,7 @@ use Rattle.std.proofs.Common.{inl, inr, cond, refl, ap, sym, subst, ◌∙◌, a
 use Rattle.std.proofs.lemmas.List.{append-nil}
 use Rattle.play_script.specs.declared.script.Event.TheVariants.{Input, EndInput}
 use Rattle.play_script.specs.Scripts.{ScriptView}
+use Rattle.uxn_limits.specs.declared.ports.TheConstants.{CONSOLE_VECTOR}
 use Rattle.varvara_bus.specs.History.{stored_short}
 use Rattle.vector_loop.specs.declared.pending_input.PendingInput.{PendingInput}
 use Rattle.vector_loop.specs.declared.pending_input.PendingInput.TheVariants.{OfArgument, OfEvent}
@@ -56,11 +57,11 @@ vector-begun zero address state some = absurd (omega (arith, some))
 vector-begun (suc less) address state some = refl
 
 begins-keeps : (budget : ℕ) (outputs : Outputs) (held : State) (done : Trace) (later : List PendingInput) → 1 ≤ budget
-    → followed_by done (λ s. followed_by (vector_in budget 0x10 held) (give_each (given budget outputs) later))
+    → followed_by done (λ s. followed_by (vector_in budget CONSOLE_VECTOR held) (give_each (given budget outputs) later))
     ≡ whole_run budget outputs (vector_begins budget held done later)
 unfolding vector_begins vector_in
 begins-keeps budget outputs held done later some =
-    let address = stored_short held.devices.history 0x10 in
+    let address = stored_short held.devices.history CONSOLE_VECTOR in
     let rest = give_each (given budget outputs) later in
     elim (address == 0) as (λ b. followed_by done (λ s. followed_by (cond b (stays held) (vector budget address held)) rest)
     ≡ whole_run budget outputs (cond b (place (come_to held done) 0 later) (place (come_to (begun_at address held) done) budget later))) [
@@ -70,7 +71,7 @@ begins-keeps budget outputs held done later some =
 
 -- what is for the console is held there, and then its vector is run
 HoldsFirst : ℕ → Outputs → PendingInput → State → Option ConsoleByte → Type 0
-HoldsFirst budget outputs input state (Some byte) = given budget outputs input state ≡ vector_in budget 0x10
+HoldsFirst budget outputs input state (Some byte) = given budget outputs input state ≡ vector_in budget CONSOLE_VECTOR
     (holding byte (counted_input input state))
 HoldsFirst budget outputs input state None = Unit {0}
 
@@ -187,7 +188,7 @@ giving-ends : (budget : ℕ) (outputs : Outputs) (input : PendingInput) (byte : 
 unfolding vector_begins
 giving-ends budget outputs input (Some byte) done later idle =
     let held = holding byte (counted_input input done.last) in
-    let address = stored_short held.devices.history 0x10 in
+    let address = stored_short held.devices.history CONSOLE_VECTOR in
     let next = come_to (begun_at address held) done in
     elim (address == 0) as (λ b. Ends budget outputs (cond b (place (come_to held done) 0 later) (place next budget later))) [
       | true ↦ idle (come_to held done)

@@ -23,14 +23,9 @@ use console_port::EventKind;
 use input_ports::{Input, vector_port};
 use play_script::Event;
 use uxn_io_traits::{Sink, Tree};
+use uxn_limits::ports::{CONSOLE_VECTOR, SYSTEM_STATE};
 use uxn_opcodes::{Core, Ports, Stop};
 use varvara_bus::Bus;
-
-/// The port of the console's vector.
-const CONSOLE_VECTOR: u8 = 0x10;
-
-/// The port of the state, which ends the run where it is not 0.
-const STATE: u8 = 0x0f;
 
 impl<'r, 'a, T: Tree, O: Sink, E: Sink, W: Watcher> Runner<'r, 'a, T, O, E, W> {
     /// Whether the run is over: the byte in the port of the state is not 0.
@@ -38,7 +33,7 @@ impl<'r, 'a, T: Tree, O: Sink, E: Sink, W: Watcher> Runner<'r, 'a, T, O, E, W> {
         ensures { (devices : DeviceState) → BusRepresents (contents_on T.Tree) self.now.bus.now devices
             → result ≡ is_over (running_state (running_of self.now) devices) }
     {
-        self.bus.stored(STATE) != 0
+        self.bus.stored(SYSTEM_STATE) != 0
     }
 
     /// Runs the vector whose address is in two ports, unless it is 0.

@@ -9,16 +9,8 @@ use crate::output::{Outputs, keep_samples};
 use crate::runner::Runner;
 use crate::watch::Watcher;
 use uxn_io_traits::{Sink, Tree};
+use uxn_limits::ports::{AUDIO_VECTOR, SCREEN_VECTOR, VOICE_PORTS};
 use uxn_opcodes::Stop;
-
-/// The port of the screen's vector.
-const SCREEN_VECTOR: u8 = 0x20;
-
-/// The port of the first voice's vector.
-const VOICE_VECTOR: u8 = 0x30;
-
-/// How far the ports of a voice lie from those of the next.
-const VOICE_PORTS: u8 = 0x10;
 
 impl<'r, 'a, T: Tree, O: Sink, E: Sink, W: Watcher> Runner<'r, 'a, T, O, E, W> {
     /// Runs the vector of a voice, where its note has ended, unless the run is over.
@@ -34,7 +26,7 @@ impl<'r, 'a, T: Tree, O: Sink, E: Sink, W: Watcher> Runner<'r, 'a, T, O, E, W> {
         if !ended {
             return Ok(());
         }
-        self.run_vector_in(VOICE_VECTOR + VOICE_PORTS * voice)
+        self.run_vector_in(AUDIO_VECTOR + VOICE_PORTS * voice)
     }
 
     /// Runs the vectors of the voices whose notes have ended, in order, each unless the run is over.

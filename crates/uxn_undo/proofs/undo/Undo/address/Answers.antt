@@ -1,9 +1,9 @@
 use Rattle.uxn_undo.proofs.Common.{◌-◌, refl, arith}
-use Rattle.uxn_undo.proofs.Joined.{at_moment, length-held}
+use Rattle.uxn_undo.proofs.Joined.{at_moment, length_held}
 use Rattle.uxn_undo.proofs.undo.Undo.address.Goals as goal
 
 pub nth-requires : goal.nth-requires
-nth-requires c = omega (arith, length-held c.self.inside.rows.items c.self.inside.records.items c.self.inside.bytes.items c.args.self.now c.self.view_is)
+nth-requires c = omega (arith, length_held c.self.inside.rows.items c.self.inside.records.items c.self.inside.bytes.items c.args.self.now c.self.view_is)
 
 pub returns : goal.returns
 returns c =

@@ -1,11 +1,11 @@
 use Rattle.std.proofs.Common.{rules}
 use Rattle.uxn_undo.proofs.Common.{◌-◌, drop, sym, ◌∙◌, arith, moments_in}
-use Rattle.uxn_undo.proofs.Joined.{length-held, in_bytes, begins_next, next_back, byte_found, all_back}
+use Rattle.uxn_undo.proofs.Joined.{length_held, in_bytes, begins_next, next_back, byte_found, all_back}
 use Rattle.uxn_undo.proofs.undo.Undo.byte.Goals as goal
 use Rattle.uxn_undo.proofs.undo.Undo.byte.Goals.{in-Some, in_default}
 
 pub nth-requires : goal.nth-requires
-nth-requires c = omega (arith, length-held c.self.inside.rows.items c.self.inside.records.items c.self.inside.bytes.items c.args.self.now c.self.view_is)
+nth-requires c = omega (arith, length_held c.self.inside.rows.items c.self.inside.records.items c.self.inside.bytes.items c.args.self.now c.self.view_is)
 
 pub byte_in-byte-requires : goal.byte_in-byte-requires
 byte_in-byte-requires c =

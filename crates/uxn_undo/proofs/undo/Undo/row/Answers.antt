@@ -2,12 +2,12 @@ use Rattle.std.proofs.Common.{rules}
 use Rattle.uxn_undo.proofs.Common.{◌≡◌, ◌-◌, ◌<◌, List, length, Some, refl, sym, ap, ◌∙◌, arith, slice_index_or, vec_len, Row, row_of}
 use Rattle.uxn_undo.proofs.Common.{row_in, no_row}
 use Rattle.std.proofs.lemmas.List.{get_or_default}
-use Rattle.uxn_undo.proofs.Joined.{at_moment, length-held}
+use Rattle.uxn_undo.proofs.Joined.{at_moment, length_held}
 use Rattle.uxn_undo.proofs.Slots.{slot_within}
 use Rattle.uxn_undo.proofs.undo.Undo.row.Goals as goal
 
 pub nth-requires : goal.nth-requires
-nth-requires c = omega (arith, length-held c.self.inside.rows.items c.self.inside.records.items c.self.inside.bytes.items c.args.self.now c.self.view_is)
+nth-requires c = omega (arith, length_held c.self.inside.rows.items c.self.inside.records.items c.self.inside.bytes.items c.args.self.now c.self.view_is)
 
 pub bounds-rows-from : goal.bounds-rows-from
 bounds-rows-from = search (arith, rules, slot_within)
