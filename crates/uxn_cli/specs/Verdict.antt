@@ -3,8 +3,8 @@ use Rattle.std.specs.Prelude.{ℕ, List, [], codes, if◌then◌else◌, Option,
 use Rattle.std.specs.List.{list_all}
 use Rattle.uxn_limits.specs.declared.limits.TheConstants.{USUAL_BUDGET}
 use Rattle.play_script.specs.Scripts.{script_of}
-use Rattle.tal_rom.specs.Assembly.{first_fault, rom_of}
-use Rattle.tal_assembly.specs.Sources.{own_by}
+use Rattle.tal_rom.specs.Assembly.{rom_of}
+use Rattle.tal_assembly.specs.Sources.{own_answer}
 use Rattle.uxn_inquiry.specs.Inquiry.{Inquiry, Answer, and_then, result_as}
 use Rattle.uxn_task_files.specs.declared.refusal.Refusal.{Refusal}
 use Rattle.uxn_task_files.specs.declared.refusal.Refusal.TheVariants.{Faulty, OtherEvents}
@@ -33,7 +33,7 @@ run_job run debug given =
 -- the summary of a workload: its source has no fault, and is run over 60 frames
 abbrev pub accepted_summary : ℕ → Result (List ℕ) Refusal
 accepted_summary count =
-    then_steps (result_as Faulty (own_by (workload_source count) (first_fault (workload_source count)))) (λ source.
+    then_steps (result_as Faulty (own_answer (workload_source count))) (λ source.
     then_steps (validated_script (script_of (codes "frame 60"))) (λ script.
     Ok (workload_text source.text (rom_of source.text) script)))
 

@@ -59,7 +59,7 @@ fn early_status(stop: Stop) -> u8
 }
 
 /// Does what the words ask for, and gives the status.
-#[tactic(auto, using(crate::proofs::ClauseLemmas::comes_out))]
+#[tactic(auto, using(crate::proofs::Clauses::comes_out))]
 fn status_of<T: Tree, O: Sink, E: Sink>(
     alloc: Global,
     words: &[String],

@@ -4,8 +4,8 @@ ghost use Rattle.tal_rom.specs.Rom.{rom_limit};
 ghost use Rattle.uxn_workload.specs.Summary.{summary_text};
 ghost use Rattle.uxn_cli.specs.Prepared.{AreNew};
 ghost use Rattle.uxn_cli.specs.Workload.{HasRunAlone, lone_trace, run_summary, workload_text};
-ghost use Rattle.tal_rom.specs.Assembly.{IsAssembled, first_fault};
-ghost use Rattle.tal_assembly.specs.Sources.{own_by};
+ghost use Rattle.tal_rom.specs.Assembly.{IsAssembled};
+ghost use Rattle.tal_assembly.specs.Sources.{own_answer};
 ghost use Rattle.uxn_inquiry.specs.Inquires.{Says};
 ghost use Rattle.uxn_inquiry.specs.Inquiry.{result_as};
 ghost use Rattle.uxn_task_files.specs.declared.refusal.Refusal.TheVariants.{Faulty};
@@ -101,7 +101,7 @@ fn run_workload(
 
 /// The assembly of a workload.
 fn assembly_of(alloc: Global, source: &[u8]) -> Result<Assembly, Halt<Refusal>>
-    ensures says { Says (λ _. record { text = source.now; paths = [] }) (result_as Faulty (own_by source.now (first_fault source.now))) result }
+    ensures says { Says (λ _. record { text = source.now; paths = [] }) (result_as Faulty (own_answer source.now)) result }
     ensures assembled { IfOk result (λ assembly. IsAssembled source.now (Ok assembly)) }
 {
     match assemble(alloc, source) {

@@ -16,20 +16,20 @@ ghost use Rattle.uxn_cli.specs.Verdict.{inquiry_of};
 ghost use Rattle.uxn_cli.specs.Observation.{OnlyWatches, HaveSameItems, ShowsWhatPlayDoes};
 
 /// 136 comes only where the tree's count of faults rose in the call, and 137 only where a sink's did: by the clause `early`.
-#[tactic(auto, using(crate::proofs::CauseLemmas::tree_rose, crate::proofs::CauseLemmas::sink_rose))]
+#[tactic(auto, using(crate::proofs::Clauses::Works::tree_rose, crate::proofs::Clauses::Works::sink_rose))]
 pub fn a_fault_raises_a_count()
     ensures { (c : Call) → EndsEarlyByFaults c → RaisesACount c.before.faults c.now.faults c.status }
 {}
 
 /// After an early end each output, and each file that is written, holds a prefix of what the outcome gives it.
-#[tactic(auto, using(crate::proofs::PrefixLemmas::leaves_prefixes))]
+#[tactic(auto, using(crate::proofs::Clauses::leaves_prefixes))]
 pub fn an_early_end_leaves_prefixes()
     ensures { (c : Call) → IsCutShort c → LeavesPrefixes c }
 {}
 
 /// A run under the debugger has the status of the run without it, and its changes but for the log. The file of the
 /// log is made first and gets its bytes last.
-#[tactic(auto, using(crate::proofs::ObservationLemmas::log_around))]
+#[tactic(auto, using(crate::proofs::Clauses::log_around))]
 pub fn the_debugger_only_watches()
     ensures { OnlyWatches }
 {}
@@ -52,7 +52,7 @@ pub fn a_verdict_depends_on_what_is_asked()
 
 /// A source that is refused depends on its own bytes, and on the files that are read before its fault: over every other tree that is
 /// the same in these the call is refused so, whatever else is there.
-#[tactic(auto, using(crate::proofs::IsolationLemmas::alone))]
+#[tactic(auto, using(crate::proofs::Clauses::alone))]
 pub fn a_refused_source_is_alone()
     ensures { (task : Task) (path : List ℕ) (nodes other : Nodes) (refusal : Refusal) → first_source task ≡ Some path
         → answer_in nodes (source_of path) ≡ Err refusal → AgreeAlong nodes other (source_of path)

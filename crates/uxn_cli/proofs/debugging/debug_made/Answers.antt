@@ -1,7 +1,5 @@
-use Rattle.uxn_cli.proofs.Common.{requested_output, outside-of-tree, is_err, ◌≡◌, ◌∙◌, refl, rules, Err, Some, log_text, debugging}
-use Rattle.uxn_io_traits.specs.EndedLaws.{refuses-then}
-use Rattle.uxn_cli.proofs.ChangeLemmas.{filled-of-tree}
-use Rattle.uxn_cli.proofs.RunLemmas.{runs-as, runs-first, runs-then, stays-if, kept-log}
+use Rattle.uxn_cli.proofs.Clauses.Works.{requested_output, outside-of-tree, is_err, ◌≡◌, ◌∙◌, refl, rules, Err, Some, log_text, debugging}
+use Rattle.uxn_cli.proofs.Clauses.Works.{refuses-then, filled-of-tree, runs-as, runs-first, runs-then, stays-if, kept-log}
 use Rattle.uxn_cli.proofs.debugging.debug_made.Goals as goal
 
 pub returns-in_err-end-clause-runs : goal.returns-in_err-end-clause-runs

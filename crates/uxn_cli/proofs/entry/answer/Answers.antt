@@ -1,4 +1,4 @@
-use Rattle.uxn_cli.proofs.VerdictLemmas.{refusal-does}
+use Rattle.uxn_cli.proofs.Clauses.Works.{refusal-does}
 use Rattle.uxn_cli.proofs.entry.answer.Goals as goal
 
 pub returns-in-Err-Refused-clause-does : goal.returns-in-Err-Refused-clause-does

@@ -1,5 +1,4 @@
-use Rattle.uxn_cli.proofs.Common.{common_steps, arith}
-use Rattle.uxn_cli.proofs.VerdictLemmas.{words-does}
+use Rattle.uxn_cli.proofs.Clauses.Works.{common_steps, arith, words-does}
 use Rattle.uxn_cli.proofs.entry.perform.Goals as goal
 
 pub returns-in_err-task-clause-does : goal.returns-in_err-task-clause-does

@@ -1,5 +1,4 @@
-use Rattle.uxn_cli.proofs.Common.{Ok, Err}
-use Rattle.uxn_cli.proofs.ClauseLemmas.{comes_out}
+use Rattle.uxn_cli.proofs.Clauses.{Ok, Err, comes_out}
 use Rattle.uxn_cli.proofs.entry.status_of.Goals as goal
 
 pub returns-in-Ok-clause-comes : goal.returns-in-Ok-clause-comes

@@ -1,9 +1,4 @@
-use Rattle.uxn_cli.proofs.Common.{rules}
-use Rattle.uxn_cli.proofs.RefusalLemmas.{passes-as}
-use Rattle.uxn_cli.proofs.ClauseLemmas.{has_statuses, ends_early}
-use Rattle.uxn_cli.proofs.PrefixLemmas.{is_cut_short}
-use Rattle.uxn_cli.proofs.IsolationLemmas.{gives_the_same}
-use Rattle.uxn_cli.proofs.OthersLemmas.{leaves_the_rest}
+use Rattle.uxn_cli.proofs.Clauses.{rules, passes-as, has_statuses, ends_early, is_cut_short, gives_the_same, leaves_the_rest}
 use Rattle.uxn_cli.proofs.entry.uxn.Goals as goal
 
 pub returns-clause-rest : goal.returns-clause-rest

@@ -1,27 +1,23 @@
-use Rattle.uxn_cli.proofs.Common.{◌≡◌, ◌∙◌, sym, subst, false, List, ℕ, [], ◌∷◌, ◌++◌, append_assoc, append-nil, refl, Option, Some, None, ap, rules}
-use Rattle.uxn_cli.proofs.Common.{Change, ToOut, ToErr, Creates, ToFile, Removes, World, changed, changed_by, extended, Trace}
-use Rattle.uxn_cli.proofs.Common.{clock_by, no_root_view, lone_trace}
-use Rattle.varvara_bus.specs.State.{DevicesRepresent, new_state}
+use Rattle.uxn_cli.proofs.Clauses.Works.Changes.Names.{◌≡◌, ◌∙◌, sym, subst, false, List, ℕ, [], ◌∷◌, refl, Option, Some, None, ap, rules, arith}
+use Rattle.uxn_cli.proofs.Clauses.Works.Changes.Names.{common_steps, extended-nothing, extended-extended, Change, ToOut, ToErr, Creates}
+use Rattle.uxn_cli.proofs.Clauses.Works.Changes.Names.{ToFile, Removes, World, changed, changed_by, extended, Trace, clock_by, no_root_view}
+use Rattle.uxn_cli.proofs.Clauses.Works.Changes.Names.{lone_trace, DevicesRepresent, new_state, put_by}
 use Rattle.std.specs.FinMap as fin
-use Rattle.uxn_line.specs.Places.{put_by}
 use Rattle.uxn_cli.proofs.generating.run_alone.Goals as goal
 
 -- what changes put on the standard output
-out-put : (w : World) (changes : List Change) (bytes : List ℕ) → w.out ≡ Some bytes → (changed_by w changes).out ≡ Some (bytes ++ put_by changes)
-out-put w [] bytes is = is ∙ ap Some (sym (append-nil bytes))
-out-put w (ToOut byte ∷ changes) bytes is =
-    out-put (changed w (ToOut byte)) changes (bytes ++ byte ∷ []) (ap (λ o. extended o (byte ∷ [])) is)
-    ∙ ap Some (append_assoc bytes (byte ∷ []) (put_by changes))
-out-put w (ToErr byte ∷ changes) bytes is = out-put (changed w (ToErr byte)) changes bytes is
-out-put w (Creates path ∷ changes) bytes is = out-put (changed w (Creates path)) changes bytes is
-out-put w (ToFile path byte ∷ changes) bytes is = out-put (changed w (ToFile path byte)) changes bytes is
-out-put w (Removes path ∷ changes) bytes is = out-put (changed w (Removes path)) changes bytes is
+out-put : (w : World) (changes : List Change) → (changed_by w changes).out ≡ extended w.out (put_by changes)
+out-put w [] = sym (extended-nothing w.out)
+out-put w (ToOut byte ∷ changes) = out-put (changed w (ToOut byte)) changes ∙ extended-extended w.out (byte ∷ []) (put_by changes)
+out-put w (ToErr byte ∷ changes) = out-put (changed w (ToErr byte)) changes
+out-put w (Creates path ∷ changes) = out-put (changed w (Creates path)) changes
+out-put w (ToFile path byte ∷ changes) = out-put (changed w (ToFile path byte)) changes
+out-put w (Removes path ∷ changes) = out-put (changed w (Removes path)) changes
 
 -- what its own sink took is what its run puts there
 has-console : (trace : Trace) (now before : World) (taken : List ℕ) → now ≡ changed_by before trace.changes → before.out ≡ Some []
     → now.out ≡ Some taken → taken ≡ put_by trace.changes
-has-console trace now before taken done empty out =
-    (let same : Some taken ≡ Some (put_by trace.changes) = sym out ∙ ap (λ w. w.out) done ∙ out-put before trace.changes [] empty in cc)
+has-console = grind (arith, common_steps, out-put)
 
 pub run_machine-requires-clause-devices : goal.run_machine-requires-clause-devices
 run_machine-requires-clause-devices c =

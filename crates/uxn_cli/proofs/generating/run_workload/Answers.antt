@@ -1,11 +1,7 @@
-use Rattle.uxn_cli.proofs.Common.{◌≡◌, ◌∙◌, ap, refl, subst, Trace, HasRunAlone, lone_trace, run_summary}
-unfoldable use Rattle.uxn_cli.proofs.Common.{reference_trace, workload_text}
-use Rattle.std.proofs.lemmas.Result.{IfOk-weaker}
-use Rattle.uxn_limits.specs.declared.limits.TheConstants.{USUAL_BUDGET}
-use Rattle.uxn_line.specs.Places.{put_by}
+use Rattle.uxn_cli.proofs.Clauses.Works.Changes.Names.{◌≡◌, ◌∙◌, ap, refl, subst, Trace, HasRunAlone, lone_trace, run_summary, IfOk-weaker}
+use Rattle.uxn_cli.proofs.Clauses.Works.Changes.Names.{USUAL_BUDGET, put_by, summary_text, run_end}
+unfoldable use Rattle.uxn_cli.proofs.Clauses.Works.Changes.Names.{reference_trace, workload_text}
 use Rattle.uxn_line.specs.Streams.{run_of}
-use Rattle.uxn_workload.specs.Summary.{summary_text}
-use Rattle.uxn_cli.specs.RunJob.{run_end}
 use Rattle.uxn_cli.proofs.generating.run_workload.Goals as goal
 
 pub run_alone-requires-clause-devices : goal.run_alone-requires-clause-devices

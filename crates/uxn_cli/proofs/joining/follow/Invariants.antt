@@ -1,4 +1,4 @@
-use Rattle.uxn_cli.proofs.Common.{◌≡◌, false, length, LineGoesOn}
+use Rattle.uxn_cli.proofs.Clauses.Works.Changes.Names.{◌≡◌, false, length, LineGoesOn}
 use Rattle.uxn_cli.proofs.joining.follow.Given as goal
 
 abbrev pub invariant-loop-turns : goal.invariant-loop-turns

@@ -1,4 +1,4 @@
-use Rattle.uxn_cli.proofs.Common.{◌≡◌, false, length, LineGoesOn}
+use Rattle.uxn_cli.proofs.Clauses.Works.Changes.Names.{◌≡◌, false, length, LineGoesOn}
 use Rattle.uxn_cli.proofs.joining.give_turns.Given as goal
 
 abbrev pub invariant-loop : goal.invariant-loop

@@ -1,6 +1,5 @@
-use Rattle.uxn_cli.proofs.Common.{◌≡◌, sym, ◌∙◌, true, false, rules, refl, Ok, Err}
-unfoldable use Rattle.uxn_cli.proofs.Common.{line_plan_of}
-use Rattle.uxn_inquiry.specs.Laws.{inquires-stop, inquires-last}
+use Rattle.uxn_cli.proofs.Clauses.Works.Changes.Names.{◌≡◌, sym, ◌∙◌, true, false, rules, refl, Ok, Err, inquires-stop, inquires-last}
+unfoldable use Rattle.uxn_cli.proofs.Clauses.Works.Changes.Names.{line_plan_of}
 use Rattle.uxn_cli.proofs.joining.join_up.Goals as goal
 
 pub returns-in_err-inputs-clause-joins : goal.returns-in_err-inputs-clause-joins

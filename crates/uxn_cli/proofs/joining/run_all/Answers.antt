@@ -1,7 +1,5 @@
-use Rattle.uxn_cli.proofs.Common.{◌≡◌, ℕ, rules, false, Result, Ok, Err, IfOk, is_err, SinkEnded, SinkState, Failed, IsUnderWay}
-use Rattle.uxn_cli.proofs.Common.{LineGoesOn, LineHasDone, line_bytes, line_exit}
-use Rattle.uxn_line.specs.declared.line.Line.{Line as LineOf}
-use Rattle.uxn_line.specs.Streams.{LineJob}
+use Rattle.uxn_cli.proofs.Clauses.Works.Changes.Names.{◌≡◌, ℕ, rules, false, Result, Ok, Err, IfOk, is_err, SinkEnded, SinkState, Failed, IsUnderWay}
+use Rattle.uxn_cli.proofs.Clauses.Works.Changes.Names.{LineGoesOn, LineHasDone, line_bytes, line_exit, LineOf, LineJob}
 use Rattle.uxn_cli.proofs.joining.run_all.Goals as goal
 
 -- what is done behind turns

@@ -1,4 +1,4 @@
-use Rattle.uxn_cli.proofs.Common.{length-map, job_of_joined, common_steps, arith}
+use Rattle.uxn_cli.proofs.Clauses.Works.Changes.Names.{length-map, job_of_joined, common_steps, arith}
 use Rattle.uxn_cli.proofs.joining.run_line.Goals as goal
 
 pub run_all-requires : goal.run_all-requires

@@ -1,5 +1,4 @@
-use Rattle.uxn_cli.proofs.Common.{inquiry_of}
-use Rattle.uxn_inquiry.specs.InquiryLaws.{same-answer}
+use Rattle.uxn_cli.proofs.Clauses.Works.Changes.Names.{inquiry_of, same-answer}
 use Rattle.uxn_cli.proofs.laws.a_verdict_depends_on_what_is_asked.Goals as goal
 
 pub returns : goal.returns

@@ -1,9 +1,6 @@
-use Rattle.uxn_cli.proofs.Common.{◌≡◌, ◌∙◌, ap, rules, Err, Ok, subst, MakesOutputs, prepared_plan}
+use Rattle.uxn_cli.proofs.Clauses.Works.{◌≡◌, ◌∙◌, ap, rules, Err, Ok, subst, MakesOutputs, prepared_plan, halt_of_inquiry, paths_of, does-unmade}
+use Rattle.uxn_cli.proofs.Clauses.Works.{does-run, ready-files, ready-log, halted-unready, accepted-after, does-behind}
 use Rattle.uxn_arguments.specs.declared.task.Task.TheVariants as tasks
-use Rattle.uxn_task_files.specs.Blame.{halt_of_inquiry}
-use Rattle.uxn_task_files.specs.Outputs.{paths_of}
-use Rattle.uxn_cli.proofs.RunLemmas.{does-unmade, does-run, ready-files, ready-log}
-use Rattle.uxn_cli.proofs.WorkLemmas.{halted-unready, accepted-after, does-behind}
 use Rattle.uxn_cli.proofs.playing.play.Goals as goal
 
 pub returns-in_err-prepared-clause-does : goal.returns-in_err-prepared-clause-does

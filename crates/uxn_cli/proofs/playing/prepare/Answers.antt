@@ -1,7 +1,6 @@
-use Rattle.uxn_cli.proofs.Common.{◌≡◌, rules, Ok, Err, ap, sym}
-unfoldable use Rattle.uxn_cli.proofs.Common.{run_plan_of}
+use Rattle.uxn_cli.proofs.Clauses.Works.Changes.Names.{◌≡◌, rules, Ok, Err, ap, sym, inquires-stop, inquires-last}
+unfoldable use Rattle.uxn_cli.proofs.Clauses.Works.Changes.Names.{run_plan_of}
 use Rattle.uxn_inquiry.specs.declared.halt.Halt.TheVariants.{NoMemory}
-use Rattle.uxn_inquiry.specs.Laws.{inquires-stop, inquires-last}
 use Rattle.uxn_cli.proofs.playing.prepare.Goals as goal
 
 pub returns-in_err-inputs-clause-prepares : goal.returns-in_err-inputs-clause-prepares

@@ -1,4 +1,4 @@
-use Rattle.uxn_cli.proofs.Common.{◌∙◌, ap, refl, new_core, model_of_program}
+use Rattle.uxn_cli.proofs.Clauses.Works.Changes.Names.{◌∙◌, ap, refl, new_core, model_of_program}
 use Rattle.uxn_cli.proofs.playing.ready.Goals as goal
 
 pub returns-clause-ready : goal.returns-clause-ready

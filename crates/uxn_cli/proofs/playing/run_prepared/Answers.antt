@@ -1,5 +1,4 @@
-use Rattle.uxn_cli.proofs.Common.{sym, append-nil}
-use Rattle.uxn_cli.proofs.RunLemmas.{runs-as}
+use Rattle.uxn_cli.proofs.Clauses.Works.{sym, append-nil, runs-as}
 use Rattle.uxn_cli.proofs.playing.run_prepared.Goals as goal
 
 pub returns-in-Some-clause-runs : goal.returns-in-Some-clause-runs

@@ -1,6 +1,5 @@
-use Rattle.uxn_cli.proofs.Common.{◌≡◌, ◌≢◌, ◌++◌, ℕ, append-nil, refl, sym, ap, ◌∙◌, arith, version_number, common_lines, further_lines, report_text}
-use Rattle.play_script.specs.declared.script.Version.{Version}
-use Rattle.play_script.specs.declared.script.Version.TheVariants.{First, Second}
+use Rattle.uxn_cli.proofs.Clauses.Works.Changes.Names.{◌≡◌, ◌≢◌, ◌++◌, ℕ, append-nil, refl, sym, ap, ◌∙◌, arith, version_number, common_lines}
+use Rattle.uxn_cli.proofs.Clauses.Works.Changes.Names.{further_lines, report_text, Version, First, Second}
 use Rattle.uxn_cli.proofs.report.report.Goals as goal
 
 is_second : (number : Version) (version : ℕ) → version ≡ version_number number → version ≡ 2 → number ≡ Second

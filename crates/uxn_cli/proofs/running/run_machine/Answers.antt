@@ -1,7 +1,6 @@
-use Rattle.uxn_cli.proofs.Common.{contents_on, ◌≡◌, ◌∙◌, refl, ap, rules, arith, Err, false, exit_code_of, first_devices, reference_trace}
-use Rattle.uxn_cli.proofs.Common.{common_steps}
+use Rattle.uxn_cli.proofs.Clauses.Works.{contents_on, ◌≡◌, ◌∙◌, refl, ap, rules, arith, Err, false, exit_code_of, first_devices, reference_trace}
+use Rattle.uxn_cli.proofs.Clauses.Works.{common_steps, at-start}
 use Rattle.std.specs.FinMap as fin
-use Rattle.uxn_cli.proofs.RunLemmas.{at-start}
 use Rattle.uxn_cli.proofs.running.run_machine.Goals as goal
 
 pub run_script-requires-clause-frames : goal.run_script-requires-clause-frames
@@ -20,11 +19,11 @@ returns-clause-runs g c =
           let stands = at-start (contents_on g.T.Tree) c.new-bus.result _ _ machine.script root_view devices c.new-bus.ensures.tree_now root
           c.requires.devices files in
           let ends = c.in_ok-tally.ensures.ok.from (first_devices machine.script root_view) stands in
-          let w = ends.makes.world in
-          let r = ends.makes.remains in
+          let w = ends.follows.makes.world in
+          let r = ends.follows.makes.remains in
           record {
             made = record { world = search (rules, w); ledger = search (rules, ledger); remains = search (rules, r) };
-            ends = rw (c.exit_code.ensures ∙ ap exit_code_of (c.stored.ensures.stored _ ends.devices.devices), ends.tally) refl;
+            ends = rw (c.exit_code.ensures ∙ ap exit_code_of (c.stored.ensures.stored _ ends.follows.devices.devices), ends.follows.tally) refl;
             names = tt;
           };
       ledger = search (rules, ledger);
@@ -39,7 +38,8 @@ returns-clause-watcher g c = λ root_view root files.
     let machine = c.args.machine.now in
     let stands = at-start (contents_on g.T.Tree) c.new-bus.result _ _ machine.script root_view c.new-bus.ensures.devices_now
     c.new-bus.ensures.tree_now root c.requires.devices files in
-    (c.in_ok-tally.ensures.ok.from (first_devices machine.script root_view) stands).watcher
+    let ends = c.in_ok-tally.ensures.ok.from (first_devices machine.script root_view) stands in
+    rw ends.follows.watcher at ends.watcher
 
 pub returns-in_err-tally-clause-runs : goal.returns-in_err-tally-clause-runs
 unfolding reference_trace

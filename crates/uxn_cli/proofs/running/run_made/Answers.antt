@@ -1,9 +1,6 @@
-use Rattle.uxn_cli.proofs.Common.{◌≡◌, ◌∙◌, ap, sym, subst, rules, Err, false, is_err, outside-of-tree, requested_output, exit_code_at, report_text}
-use Rattle.uxn_cli.proofs.Common.{AreNew}
+use Rattle.uxn_cli.proofs.Clauses.Works.{◌≡◌, ◌∙◌, ap, sym, subst, rules, Err, false, is_err, outside-of-tree, requested_output, exit_code_at}
+use Rattle.uxn_cli.proofs.Clauses.Works.{report_text, AreNew, refuses-then, filled-of-tree, runs-at, runs-first, runs-then, shown-then, stays-if}
 use Rattle.std.specs.FinMap as fin
-use Rattle.uxn_io_traits.specs.EndedLaws.{refuses-then}
-use Rattle.uxn_cli.proofs.ChangeLemmas.{filled-of-tree}
-use Rattle.uxn_cli.proofs.RunLemmas.{runs-at, runs-first, runs-then, shown-then, stays-if}
 use Rattle.uxn_cli.proofs.running.run_made.Goals as goal
 
 pub run_machine-requires-clause-devices : goal.run_machine-requires-clause-devices

@@ -1,7 +1,4 @@
-use Rattle.uxn_cli.proofs.Common.{false, sym, looked-ended, looked-nothing}
-use Rattle.uxn_io_traits.specs.CallLaws.{ended-as}
-use Rattle.uxn_io_traits.specs.EndedLaws.{refuses-nothing}
-use Rattle.uxn_cli.proofs.RunLemmas.{one-text}
+use Rattle.uxn_cli.proofs.Clauses.Works.{false, sym, looked-ended, looked-nothing, ended-as, refuses-nothing, one-text}
 use Rattle.uxn_cli.proofs.running.write_text.Goals as goal
 
 pub returns-in-Some-clause-ended : goal.returns-in-Some-clause-ended

@@ -1,7 +1,5 @@
-use Rattle.uxn_cli.proofs.Common.{disassembly_of, accepted_summary, Answer}
+use Rattle.uxn_cli.proofs.Clauses.Works.{disassembly_of, accepted_summary, Answer, inquires-said, text-asks}
 use Rattle.uxn_arguments.specs.declared.task.Task.TheVariants as tasks
-use Rattle.uxn_inquiry.specs.Laws.{inquires-said}
-use Rattle.uxn_cli.proofs.WorkLemmas.{text-asks}
 use Rattle.uxn_cli.proofs.work.carry_out.Goals as goal
 
 pub returns-in-Disassemble-clause-does : goal.returns-in-Disassemble-clause-does

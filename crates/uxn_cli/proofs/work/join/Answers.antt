@@ -1,7 +1,5 @@
-use Rattle.uxn_cli.proofs.Common.{◌≡◌, rules, Err, refl, joined_plan}
+use Rattle.uxn_cli.proofs.Clauses.Works.{◌≡◌, rules, Err, refl, joined_plan, halt_of_inquiry, halted-unready, accepted-after, does-behind, does-puts}
 use Rattle.uxn_arguments.specs.declared.task.Task.TheVariants as tasks
-use Rattle.uxn_task_files.specs.Blame.{halt_of_inquiry}
-use Rattle.uxn_cli.proofs.WorkLemmas.{halted-unready, accepted-after, does-behind, does-puts}
 use Rattle.uxn_cli.proofs.work.join.Goals as goal
 
 pub returns-in_err-joined-clause-does : goal.returns-in_err-joined-clause-does

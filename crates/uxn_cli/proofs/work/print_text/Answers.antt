@@ -1,6 +1,4 @@
-use Rattle.uxn_cli.proofs.Common.{◌≡◌, rules, Err, printed_plan}
-use Rattle.uxn_task_files.specs.Blame.{halt_of_inquiry}
-use Rattle.uxn_cli.proofs.WorkLemmas.{halted-unready, does-prints}
+use Rattle.uxn_cli.proofs.Clauses.Works.{◌≡◌, rules, Err, printed_plan, halt_of_inquiry, halted-unready, does-prints}
 use Rattle.uxn_cli.proofs.work.print_text.Goals as goal
 
 pub returns-in_err-text-clause-does : goal.returns-in_err-text-clause-does

@@ -1,13 +1,7 @@
-use Rattle.uxn_cli.proofs.Common.{◌≡◌, rules, Ok, Err, refl, sym, ◌∙◌, subst, WritesOutputs, Plan, planned, Write}
+use Rattle.uxn_cli.proofs.Clauses.Works.{◌≡◌, rules, Ok, Err, refl, sym, ◌∙◌, subst, WritesOutputs, Plan, planned, Write, inquires-stop}
+use Rattle.uxn_cli.proofs.Clauses.Works.{inquires-last, observed_paths, halt_of_inquiry, observed_texts, Written, plan-outputs, halted-unready}
+use Rattle.uxn_cli.proofs.Clauses.Works.{accepted-after, does-behind, does-write}
 use Rattle.uxn_arguments.specs.declared.task.Task.TheVariants as tasks
-use Rattle.uxn_inquiry.specs.Laws.{inquires-stop, inquires-last}
-use Rattle.uxn_task_files.proofs.OutputLemmas.{observed_paths}
-use Rattle.uxn_task_files.specs.Blame.{halt_of_inquiry}
-use Rattle.uxn_task_files.specs.Outputs.{observed_texts}
-use Rattle.uxn_task_files.specs.declared.assembling.Written.{Written}
-use Rattle.uxn_cli.proofs.PlanLemmas.{plan-outputs}
-use Rattle.uxn_cli.proofs.WorkLemmas.{halted-unready, accepted-after, does-behind}
-use Rattle.uxn_cli.proofs.WriteLemmas.{does-write}
 use Rattle.uxn_cli.proofs.work.write.Goals as goal
 
 -- the files that are written out of a source
