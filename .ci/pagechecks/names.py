@@ -39,8 +39,8 @@ class Repository:
         self.files = [file for file in listed if os.path.exists(file)]
         self.places = {*self.files, *(file[:at] for file in self.files for at, sign in enumerate(file) if sign == "/")}
         self.crates = re.findall(r"(?m)^(\w+):", read("crates.txt"))
-        table = read("crates/uxn_arguments/specs/Options.antt")
-        self.options = set(re.findall(r'(?:switch|optional|required) \(codes "(\w+)"', table))
+        table = read("crates/uxn_arguments/src/options.rt")
+        self.options = set(re.findall(r'\("(\w+)", ChoiceKind::', table))
         self.tool_options = self.options_of_tools() | {"help", "version"}
 
     def options_of_tools(self) -> set[str]:

@@ -9,7 +9,7 @@ from support import TOP, ToolTest
 
 PAGES = os.path.join(TOP, ".ci", "pages")
 CONDITIONS = os.path.join(TOP, ".ci", "conditions")
-OPTIONS = "crates/uxn_arguments/specs/Options.antt"
+OPTIONS = "crates/uxn_arguments/src/options.rt"
 GOOD = """# A page
 
 For people who try. It works.
