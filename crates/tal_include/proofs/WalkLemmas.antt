@@ -85,13 +85,12 @@ module _ (deeper : ℕ) (origin : Origin) (text : List ℕ) (flat : Flat) (view 
         pub no-room : Inquires view whole a b (Err NoMemory)
         no-room = leads-no-memory view whole (and_then (Answer (words_in path bytes)) with_words) a b at-bytes
 
-        pub all-words : (source again : List ℕ) (words list : List Word) (now : Flat) (c : TreeState)
-            (r : Result (Unit {0}) (Halt IncludeFault))
-            → source ≡ bytes → words_in path source ≡ Ok words → now ≡ flat_with_path path flat → again ≡ bytes → list ≡ words
-            → Inquires view (through_words (deeper - 1) (walk (deeper - 1)) path again now list) b c r → Inquires view whole a c r
-        all-words source again words list now c r same are is_now is_again is_list p =
+        pub all-words : (source : List ℕ) (words list : List Word) (now : Flat) (c : TreeState) (r : Result (Unit {0}) (Halt IncludeFault))
+            → source ≡ bytes → words_in path source ≡ Ok words → now ≡ flat_with_path path flat → list ≡ words
+            → Inquires view (through_words (deeper - 1) (walk (deeper - 1)) path source now list) b c r → Inquires view whole a c r
+        all-words source words list now c r same are is_now is_list p =
             leads-end view whole (with_words words) a b c r
-            (leads-step whole (words_in path bytes) with_words a b words at-bytes (rw same at are)) (rw (is_now, is_again, is_list) at p)
+            (leads-step whole (words_in path bytes) with_words a b words at-bytes (rw same at are)) (rw (is_now, same, is_list) at p)
 
 -- the words of a file, one after the other: the rest of them from a word on
 module _ (whole : Walk) (deeper : ℕ) (path source text : List ℕ) (words : List Word) (i number : ℕ) (here : Flat)

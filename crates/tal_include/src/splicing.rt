@@ -19,6 +19,21 @@ use uxn_inquiry::read_whole;
 use uxn_io_traits::{Bytes, FileBytes, Path, Tree};
 use uxn_limits::limits;
 
+/// A file that is gone through: its path, its bytes and its words.
+#[derive(Clone, Copy)]
+struct SourceFile<'a> {
+    path: &'a Path,
+    source: &'a [u8],
+    words: &'a [Word],
+}
+
+/// A word of a file: where it stands, and its bytes.
+#[derive(Clone, Copy)]
+struct FileWord<'a> {
+    origin: Origin,
+    text: &'a [u8],
+}
+
 /// Puts the words of the files that a source includes in place of the words that include them. The path
 /// of a file is read behind the folder of the main source. Refused with the first fault on the way through
 /// the words. The tree does not change, and receives no request but to read each file once, as its word is met.
@@ -47,7 +62,12 @@ pub fn splice_words<T: Tree>(
     ensures { Inquires (λ flat. flat) (splice_inquiry main.now source.now) (T.state tree.old) (T.state tree.new) result }
 {
     let mut flat = Spliced::new(alloc, main, has_include(source, words));
-    flat.add_words(alloc, tree, main, source, words, limits::INCLUDE_DEPTH)?;
+    let file = SourceFile {
+        path: main,
+        source,
+        words,
+    };
+    flat.add_words(alloc, tree, &file, limits::INCLUDE_DEPTH)?;
     Ok(flat)
 }
 
@@ -80,26 +100,18 @@ fn words_in(alloc: Global, path: &Path, source: &[u8]) -> Result<Vec<Word>, Spli
     match words(alloc, source) {
         Ok(words) => Ok(words),
         Err(AsmStop::Refused(fault)) => {
-            let origin = Origin {
-                path: *path,
-                line: fault.line,
-                column: fault.column,
+            let word = FileWord {
+                origin: Origin {
+                    path: *path,
+                    line: fault.line,
+                    column: fault.column,
+                },
+                text: fault_word(source, &fault),
             };
-            Err(refused(
-                &origin,
-                IncludeKind::Words(fault.kind),
-                fault_word(source, &fault),
-            ))
+            Err(word.refused(IncludeKind::Words(fault.kind)))
         }
         Err(AsmStop::NoMemory) => Err(SpliceStop::NoMemory),
     }
-}
-
-/// A refusal at a word.
-fn refused(origin: &Origin, kind: IncludeKind, word: &[u8]) -> SpliceStop
-    ensures { result ≡ Refused (include_fault_at origin.now kind word.now) }
-{
-    SpliceStop::Refused(IncludeFault::new(*origin, kind, word))
 }
 
 /// Whether a word includes a file.
@@ -133,14 +145,23 @@ fn included_path(main: &Path, word: &[u8]) -> Option<Path>
     }
 }
 
-/// The bytes of a file that an include word names.
-fn bytes_at(origin: &Origin, word: &[u8], file: FileBytes) -> Result<Bytes, SpliceStop>
-    ensures { Says (λ bytes. bytes.list) (found_at origin.now word.now (bytes_or_kind file)) result }
-{
-    match file {
-        FileBytes::Missing => Err(refused(origin, IncludeKind::Missing, word)),
-        FileBytes::TooLong(_) => Err(refused(origin, IncludeKind::Long, word)),
-        FileBytes::Found(bytes) => Ok(bytes),
+impl FileWord<'_> {
+    /// A refusal at the word.
+    fn refused(&self, kind: IncludeKind) -> SpliceStop
+        ensures { result ≡ Refused (include_fault_at self.now.origin kind self.now.text.now) }
+    {
+        SpliceStop::Refused(IncludeFault::new(self.origin, kind, self.text))
+    }
+
+    /// The bytes of the file that the word includes.
+    fn bytes_of(&self, file: FileBytes) -> Result<Bytes, SpliceStop>
+        ensures { Says (λ bytes. bytes.list) (found_at self.now.origin self.now.text.now (bytes_or_kind file)) result }
+    {
+        match file {
+            FileBytes::Missing => Err(self.refused(IncludeKind::Missing)),
+            FileBytes::TooLong(_) => Err(self.refused(IncludeKind::Long)),
+            FileBytes::Found(bytes) => Ok(bytes),
+        }
     }
 }
 
@@ -151,26 +172,26 @@ impl Spliced {
         &mut self,
         alloc: Global,
         tree: &mut T,
-        path: &Path,
-        source: &[u8],
-        words: &[Word],
+        file: &SourceFile<'_>,
         deeper: u32,
     ) -> Result<(), SpliceStop>
-        ensures { Inquires (λ _. self.new) (through_words deeper (walk deeper) path.now source.now self.old words.now)
+        ensures { Inquires (λ _. self.new)
+            (through_words deeper (walk deeper) file.now.path.now file.now.source.now self.old file.now.words.now)
             (T.state tree.old) (T.state tree.new) result }
     {
         let number = self.paths().len();
-        for word in words {
-            let text = word.span.text(source);
+        for word in file.words {
+            let text = word.span.text(file.source);
             let origin = Origin {
-                path: *path,
+                path: *file.path,
                 line: word.line,
                 column: word.column,
             };
+            let at = FileWord { origin, text };
             if is_include(text) {
-                self.add_include(alloc, tree, &origin, text, deeper)?;
+                self.add_include(alloc, tree, &at, deeper)?;
             } else {
-                self.add_plain(number, &origin, word, text)?;
+                self.add_plain(number, word, &at)?;
             }
         }
         Ok(())
@@ -182,36 +203,41 @@ impl Spliced {
         &mut self,
         alloc: Global,
         tree: &mut T,
-        origin: &Origin,
-        text: &[u8],
+        at: &FileWord<'_>,
         deeper: u32,
     ) -> Result<(), SpliceStop>
-        requires { 0 < length text.now }
-        ensures { Inquires (λ _. self.new) (at_include deeper (walk deeper) origin.now text.now self.old)
+        requires { 0 < length at.now.text.now }
+        ensures { Inquires (λ _. self.new) (at_include deeper (walk deeper) at.now.origin at.now.text.now self.old)
             (T.state tree.old) (T.state tree.new) result }
     {
-        let path = self.path_at(origin, text, deeper)?;
+        let path = self.path_at(at, deeper)?;
         let file = read_whole(alloc, tree, &path, limits::TEXT_LIMIT as u32)?;
-        let bytes = bytes_at(origin, text, file)?;
-        let words = words_in(alloc, &path, bytes.as_slice())?;
+        let bytes = at.bytes_of(file)?;
+        let source = bytes.as_slice();
+        let words = words_in(alloc, &path, source)?;
         self.add_path(&path)?;
-        self.add_words(alloc, tree, &path, bytes.as_slice(), &words, deeper - 1)
+        let file = SourceFile {
+            path: &path,
+            source,
+            words: &words,
+        };
+        self.add_words(alloc, tree, &file, deeper - 1)
     }
 
     /// The path of the file to be read, where files may be included so many deep.
-    fn path_at(&self, origin: &Origin, word: &[u8], deeper: u32) -> Result<Path, SpliceStop>
-        requires { 0 < length word.now }
-        ensures value { Says (λ path. path)
-            (found_at origin.now word.now (path_or_kind deeper (length self.now.paths) (included_path self.now.main word.now))) result }
+    fn path_at(&self, at: &FileWord<'_>, deeper: u32) -> Result<Path, SpliceStop>
+        requires { 0 < length at.now.text.now }
+        ensures value { Says (λ path. path) (found_at at.now.origin at.now.text.now
+            (path_or_kind deeper (length self.now.paths) (included_path self.now.main at.now.text.now))) result }
         ensures deep { OnOk result (0 < deeper) }
     {
-        match included_path(self.main(), word) {
-            None => Err(refused(origin, IncludeKind::BadPath, word)),
+        match included_path(self.main(), at.text) {
+            None => Err(at.refused(IncludeKind::BadPath)),
             Some(path) => {
                 if deeper == 0 {
-                    Err(refused(origin, IncludeKind::Deep, word))
+                    Err(at.refused(IncludeKind::Deep))
                 } else if self.paths().len() >= limits::INCLUDED_FILES {
-                    Err(refused(origin, IncludeKind::Many, word))
+                    Err(at.refused(IncludeKind::Many))
                 } else {
                     Ok(path)
                 }
@@ -220,19 +246,13 @@ impl Spliced {
     }
 
     /// Adds a word that includes no file.
-    fn add_plain(
-        &mut self,
-        file: usize,
-        origin: &Origin,
-        word: &Word,
-        text: &[u8],
-    ) -> Result<(), SpliceStop>
-        ensures { Says (λ _. self.new) (at_plain_word file origin.now word.now text.now self.old) result }
+    fn add_plain(&mut self, file: usize, word: &Word, at: &FileWord<'_>) -> Result<(), SpliceStop>
+        ensures { Says (λ _. self.new) (at_plain_word file at.now.origin word.now at.now.text.now self.old) result }
     {
-        if self.is_long_with(text) {
-            return Err(refused(origin, IncludeKind::LongFlat, text));
+        if self.is_long_with(at.text) {
+            return Err(at.refused(IncludeKind::LongFlat));
         }
-        self.add_word(file, word, text)?;
+        self.add_word(file, word, at.text)?;
         Ok(())
     }
 

@@ -49,18 +49,14 @@ fn open_after(depth: usize, text: &[u8]) -> usize
 pub fn shape_of(text: &[u8], depth: usize, is_closed: bool) -> Result<Form, FaultKind>
     ensures { IsShape text.now depth is_closed result }
 {
-    match form_of(text) {
-        Err(kind) => Err(kind),
-        Ok(form) => {
-            if closes(text) && depth == 0 {
-                return Err(FaultKind::StrayBrace);
-            }
-            if opens(text) && !is_closed {
-                return Err(FaultKind::OpenBrace);
-            }
-            Ok(form)
-        }
+    let form = form_of(text)?;
+    if closes(text) && depth == 0 {
+        return Err(FaultKind::StrayBrace);
     }
+    if opens(text) && !is_closed {
+        return Err(FaultKind::OpenBrace);
+    }
+    Ok(form)
 }
 
 /// A `}` finds no lambda open exactly where no opener before it has it as its matching brace.

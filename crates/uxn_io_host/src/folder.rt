@@ -49,10 +49,7 @@ pub struct CurrentFolder<'a, R: Files> {
 
 /// The text of a path.
 fn text(path: &Path) -> io::Result<&str> {
-    match str::from_utf8(path.bytes()) {
-        Ok(text) => Ok(text),
-        Err(_) => Err(io::Error::from(ErrorKind::InvalidData)),
-    }
+    str::from_utf8(path.bytes()).map_err(|_| io::Error::from(ErrorKind::InvalidData))
 }
 
 impl<'a, R: Files> CurrentFolder<'a, R> {

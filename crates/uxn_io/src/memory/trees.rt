@@ -337,10 +337,9 @@ impl Tree for MemTree {
         if self.begin(TreeCall::Names, false) {
             return Err(NamesStop::Failed);
         }
-        match self.held.children(alloc, folder) {
-            Ok(entries) => Ok(entries),
-            Err(_) => Err(NamesStop::NoMemory),
-        }
+        self.held
+            .children(alloc, folder)
+            .map_err(|_| NamesStop::NoMemory)
     }
 }
 

@@ -12,43 +12,45 @@ use Rattle.tal_include.proofs.spliced.Spliced.+walk.Goals.{add_words-then-is_inc
 pub add_include-returns-in_err-path : goal.add_include-returns-in_err-path
 add_include-returns-in_err-path g t c =
     let p = err_from_is_err_and c.from_residual.result c.from_residual.ensures.1 in
-    rw (p.1, p.2) (no-path c.args.deeper c.args.origin.now c.args.text.now c.args.self.now _ _ c.in_err-path.field-0.0 c.in_err-path.ensures.value)
+    rw (p.1, p.2) (no-path c.args.deeper c.args.at.now.origin c.args.at.now.text.now c.args.self.now _ _
+    c.in_err-path.field-0.0 c.in_err-path.ensures.value)
 
 pub add_include-returns-in_err-file : goal.add_include-returns-in_err-file
 add_include-returns-in_err-file g t c =
     let p = err_from_is_err_and c.from_residual-in_err-file.result c.from_residual-in_err-file.ensures.1 in
     rw (p.1, p.2)
-    (no-file c.args.deeper c.args.origin.now c.args.text.now c.args.self.now _ _ c.in_ok-path.path _ c.in_ok-path.ensures.value
+    (no-file c.args.deeper c.args.at.now.origin c.args.at.now.text.now c.args.self.now _ _ c.in_ok-path.path _ c.in_ok-path.ensures.value
     c.in_err-file.field-0.0 c.in_err-file.ensures)
 
 pub add_include-returns-in_err-bytes : goal.add_include-returns-in_err-bytes
 add_include-returns-in_err-bytes g t c =
     let p = err_from_is_err_and c.from_residual-in_err-bytes.result c.from_residual-in_err-bytes.ensures.1 in
     rw (p.1, p.2)
-    (no-bytes c.args.deeper c.args.origin.now c.args.text.now c.args.self.now _ _ c.in_ok-path.path _ c.in_ok-path.ensures.value
+    (no-bytes c.args.deeper c.args.at.now.origin c.args.at.now.text.now c.args.self.now _ _ c.in_ok-path.path _ c.in_ok-path.ensures.value
     c.in_ok-file.file c.in_ok-file.ensures (λ (bytes : ByteList). bytes.list) c.in_err-bytes.field-0.0 c.in_err-bytes.ensures)
 
 pub add_include-returns-in_err-words : goal.add_include-returns-in_err-words
 add_include-returns-in_err-words g t c =
     let p = err_from_is_err_and c.from_residual-in_err-words.result c.from_residual-in_err-words.ensures.1 in
     rw (p.1, p.2)
-    (no-words c.args.deeper c.args.origin.now c.args.text.now c.args.self.now _ _ c.in_ok-path.path _ c.in_ok-path.ensures.value
+    (no-words c.args.deeper c.args.at.now.origin c.args.at.now.text.now c.args.self.now _ _ c.in_ok-path.path _ c.in_ok-path.ensures.value
     c.in_ok-file.file c.in_ok-file.ensures c.in_ok-bytes.bytes.list c.in_ok-path.ensures.deep c.in_ok-bytes.ensures
-    (λ (words : Vec Word Global). words.items) c.as_slice.result.now c.in_err-words.field-0.0 c.as_slice.ensures c.in_err-words.ensures)
+    (λ (words : Vec Word Global). words.items) c.as_slice-source.result.now c.in_err-words.field-0.0
+    c.as_slice-source.ensures c.in_err-words.ensures)
 
 pub add_include-returns-in_err-add_path : goal.add_include-returns-in_err-add_path
 add_include-returns-in_err-add_path g t c =
     let p = err_from_is_err_and c.from_residual-in_err-add_path.result c.from_residual-in_err-add_path.ensures.1 in
     rw (p.1, p.2)
-    (no-room c.args.deeper c.args.origin.now c.args.text.now c.args.self.now _ _ c.in_ok-path.path _ c.in_ok-path.ensures.value
+    (no-room c.args.deeper c.args.at.now.origin c.args.at.now.text.now c.args.self.now _ _ c.in_ok-path.path _ c.in_ok-path.ensures.value
     c.in_ok-file.file c.in_ok-file.ensures c.in_ok-bytes.bytes.list c.in_ok-path.ensures.deep c.in_ok-bytes.ensures)
 
 pub add_include-returns : goal.add_include-returns
 add_include-returns g t c =
-    all-words c.args.deeper c.args.origin.now c.args.text.now c.args.self.now _ _ c.in_ok-path.path _ c.in_ok-path.ensures.value
+    all-words c.args.deeper c.args.at.now.origin c.args.at.now.text.now c.args.self.now _ _ c.in_ok-path.path _ c.in_ok-path.ensures.value
     c.in_ok-file.file c.in_ok-file.ensures c.in_ok-bytes.bytes.list c.in_ok-path.ensures.deep c.in_ok-bytes.ensures
-    c.as_slice.result.now c.as_slice-2.result.now c.in_ok-words.words.items c.deref.result.now c.add_path.new.self _ c.add_words.result
-    c.as_slice.ensures c.in_ok-words.ensures c.in_ok-add_path.ensures c.as_slice-2.ensures c.deref.ensures.value c.add_words.ensures
+    c.as_slice-source.result.now c.in_ok-words.words.items c.deref.result.now c.add_path.new.self _ c.add_words.result
+    c.as_slice-source.ensures c.in_ok-words.ensures c.in_ok-add_path.ensures c.deref.ensures.value c.add_words.ensures
 
 pub add_words-loop-word-init : goal.add_words-loop-word-init
 add_words-loop-word-init g t c = rw c.paths-number.ensures (leads-start _ _)
@@ -57,7 +59,8 @@ pub add_words-returns-in_err-add_include : goal.add_words-returns-in_err-add_inc
 add_words-returns-in_err-add_include g t c =
     let p = err_from_is_err_and c.from_residual.result c.from_residual.ensures.1 in
     rw (p.1, p.2)
-    (include-stop _ c.args.deeper c.args.path.now c.args.source.now c.text-text.result.now c.args.words.now c.loop-word.word-index
+    (include-stop _ c.args.deeper c.args.file.now.path.now c.args.file.now.source.now c.text-text.result.now
+    c.args.file.now.words.now c.loop-word.word-index
     (length c.paths-number.result.now) c.loop-word.self _ _ c.loop-word.invariant c.loop-word-test.true c.text-text.ensures
     (λ _. c.add_include.new.self) _ c.if-is_include.ensures _ c.in_err-add_include.field-0.0 c.in_err-add_include.ensures)
 
@@ -65,7 +68,8 @@ pub add_words-returns-in_err-add_plain : goal.add_words-returns-in_err-add_plain
 add_words-returns-in_err-add_plain g t c =
     let p = err_from_is_err_and c.from_residual-in_err-add_plain.result c.from_residual-in_err-add_plain.ensures.1 in
     rw (p.1, p.2)
-    (plain-stop _ c.args.deeper c.args.path.now c.args.source.now c.text-text.result.now c.args.words.now c.loop-word.word-index
+    (plain-stop _ c.args.deeper c.args.file.now.path.now c.args.file.now.source.now c.text-text.result.now
+    c.args.file.now.words.now c.loop-word.word-index
     (length c.paths-number.result.now) c.loop-word.self _ _ c.loop-word.invariant c.loop-word-test.true c.text-text.ensures
     (λ _. c.add_plain.new.self) c.if-is_include.ensures _ c.in_err-add_plain.field-0.0 c.in_err-add_plain.ensures)
 
@@ -74,17 +78,20 @@ add_words-loop-word-preserved g t c =
     elim c.if-is_include.branch [
       | add_words-then-is_include+in_ok-add_include w ↦
           rw (w.self-is, w.tree-is)
-          (include-more _ c.args.deeper c.args.path.now c.args.source.now c.text-text.result.now c.args.words.now c.loop-word.word-index
+          (include-more _ c.args.deeper c.args.file.now.path.now c.args.file.now.source.now c.text-text.result.now
+          c.args.file.now.words.now c.loop-word.word-index
           (length c.paths-number.result.now) c.loop-word.self _ _ c.loop-word.invariant c.loop-word-test.true c.text-text.ensures
           (λ _. w.add_include.new.self) _ w.if-is_include.ensures w.in_ok-add_include.ensures)
       | add_words-else-is_include+in_ok-add_plain w ↦
           rw (w.self-is, w.tree-is)
-          (plain-more _ c.args.deeper c.args.path.now c.args.source.now c.text-text.result.now c.args.words.now c.loop-word.word-index
+          (plain-more _ c.args.deeper c.args.file.now.path.now c.args.file.now.source.now c.text-text.result.now
+          c.args.file.now.words.now c.loop-word.word-index
           (length c.paths-number.result.now) c.loop-word.self _ _ c.loop-word.invariant c.loop-word-test.true c.text-text.ensures
           (λ _. w.add_plain.new.self) w.if-is_include.ensures w.in_ok-add_plain.ensures)
     ]
 
 pub add_words-returns : goal.add_words-returns
 add_words-returns g t c =
-    through-end (at_word c.args.deeper (walk c.args.deeper) c.args.path.now c.args.source.now (length c.paths-number.result.now)) _ c.args.words.now _ _ _ _ c.loop-word.invariant _ tt
-    c.loop-word-test.false refl
+    through-end
+    (at_word c.args.deeper (walk c.args.deeper) c.args.file.now.path.now c.args.file.now.source.now (length c.paths-number.result.now))
+    _ c.args.file.now.words.now _ _ _ _ c.loop-word.invariant _ tt c.loop-word-test.false refl

@@ -13,6 +13,6 @@ decreases-add_words g l = 2 * l.deeper + 1
 -- the walk through all words leads to the walk through those that are left
 abbrev pub invariant-add_words-loop-word : goal.invariant-add_words-loop-word
 invariant-add_words-loop-word g l =
-    Leads (through_words l.deeper (walk l.deeper) l.path l.source l.fn.self l.words)
-    (through (at_word l.deeper (walk l.deeper) l.path l.source l.number) (drop l.word-index l.words) l.self)
+    Leads (through_words l.deeper (walk l.deeper) l.file.path.now l.file.source.now l.fn.self l.file.words.now)
+    (through (at_word l.deeper (walk l.deeper) l.file.path.now l.file.source.now l.number) (drop l.word-index l.file.words.now) l.self)
     (g.T.Tree.state l.fn.tree) (g.T.Tree.state l.tree)
