@@ -27,7 +27,7 @@ pub(crate) enum Keyword {
 }
 
 /// The lines of commands.
-pub(crate) const ROWS: [Row<Keyword>; 9] = [
+pub(crate) static ROWS: [Row<Keyword>; 9] = [
     ("break", Counts::Exactly(1), Keyword::Break),
     ("delete", Counts::Exactly(1), Keyword::Delete),
     ("run", Counts::Exactly(0), Keyword::Run),
@@ -39,13 +39,11 @@ pub(crate) const ROWS: [Row<Keyword>; 9] = [
     ("ports", Counts::Exactly(0), Keyword::Ports),
 ];
 
-static TABLE: [Row<Keyword>; 9] = ROWS;
-
 // The lines of commands.
 pub(crate) fn rows() -> &'static [Row<Keyword>]
     ensures { rows_in result.now ≡ ROWS }
 {
-    TABLE.as_slice()
+    ROWS.as_slice()
 }
 
 // The command that a line gives, if it gives one, or what is wrong with it by itself.

@@ -1,5 +1,6 @@
 -- What a line of a script means (profile), a row for each first word.
-use Rattle.std.specs.Prelude.{ℕ, ◌==◌, if◌then◌else◌, pos, List, [], ◌∷◌, codes, drop, replicate, map, Option, Some, None, option_map}
+use Rattle.std.specs.Prelude.{ℕ, ◌==◌, if◌then◌else◌, pos, List, [], ◌∷◌, codes, drop, replicate, map}
+use Rattle.std.specs.Prelude.{Option, Some, None, option_map}
 use Rattle.std.specs.List.{flat_map}
 use Rattle.std.specs.Option.{ok_or, option_zip}
 use Rattle.std.specs.Str.{bytes_eq}

@@ -32,7 +32,7 @@ pub(crate) const FURTHER: usize = 5;
 
 /// The lines of version 2, and behind the first five those of version 1. Most lines of a script are frames, so their row is
 /// the first of version 1.
-pub(crate) const ROWS: [Row<Keyword>; 18] = [
+pub(crate) static ROWS: [Row<Keyword>; 18] = [
     ("script", Counts::Exactly(1), Keyword::Script),
     ("expect", Counts::Exactly(2), Keyword::Expect),
     ("key", Counts::Between(1, 2), Keyword::Key),
@@ -53,15 +53,13 @@ pub(crate) const ROWS: [Row<Keyword>; 18] = [
     ("shot", Counts::Exactly(0), Keyword::Shot),
 ];
 
-static TABLE: [Row<Keyword>; 18] = ROWS;
-
 // The lines of a version.
 #[tactic(auto, unfolding(crate::specs::Rows::rows_of))]
 pub(crate) fn rows_of(version: Version) -> &'static [Row<Keyword>]
     ensures { rows_in result.now ≡ rows_of version }
 {
     match version {
-        Version::First => &TABLE[FURTHER..],
-        Version::Second => TABLE.as_slice(),
+        Version::First => &ROWS[FURTHER..],
+        Version::Second => ROWS.as_slice(),
     }
 }

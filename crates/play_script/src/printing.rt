@@ -9,12 +9,11 @@ ghost use Rattle.play_script.specs.Held.{bytes_in};
 ghost use Rattle.play_script.specs.Limits.{IsScript};
 ghost use Rattle.play_script.specs.PlainText.{argument_words, clock_words, event_words, line_text, plain_text};
 ghost use Rattle.play_script.specs.PlainText.{text_word, value_word, version_words};
-ghost use Rattle.play_script.specs.Scripts.{ScriptView, script_of, version_number};
+ghost use Rattle.play_script.specs.Scripts.{ScriptView, script_of};
 ghost use Rattle.play_script.specs.declared.script.Event.TheVariants.{Device};
-ghost use Rattle.play_script.specs.declared.script.Version.{Version};
 ghost use Rattle.play_script.specs.declared.script.Version.TheVariants.{First, Second};
 
-use crate::script::{Clock, Event, Script};
+use crate::script::{Clock, Event, Script, Version};
 use crate::values::Value::{
     self, Button, Byte, Minutes, MouseButton, Pixel, Player, Seconds, Turn,
 };
@@ -31,7 +30,7 @@ pub fn print_script(alloc: Global, script: &Script) -> Result<Vec<u8>, AllocErro
     ensures { IfOk result (λ text. text.items ≡ plain_text script.now) }
 {
     let mut text = Vec::new(alloc);
-    put_version(&mut text, script.version())?;
+    put_version(&mut text, script.version_kind())?;
     put_clock(&mut text, script.clock())?;
     put_arguments(alloc, &mut text, script.args())?;
     put_events(&mut text, script.events())?;
@@ -39,14 +38,13 @@ pub fn print_script(alloc: Global, script: &Script) -> Result<Vec<u8>, AllocErro
 }
 
 // Puts the line of version 2.
-fn put_version(text: &mut Vec<u8>, version: u8) -> Result<(), AllocError>
-    ensures { OnOk result ((number : Version) → version ≡ version_number number
-        → text.new.items ≡ text.old.items ++ flat_map line_text (version_words number)) }
+fn put_version(text: &mut Vec<u8>, version: Version) -> Result<(), AllocError>
+    ensures { OnOk result (text.new.items ≡ text.old.items ++ flat_map line_text (version_words version)) }
 {
-    if version == 2 {
-        text.extend_from_slice(b"script 2\n".as_slice())?;
+    match version {
+        Version::First => Ok(()),
+        Version::Second => text.extend_from_slice(b"script 2\n".as_slice()),
     }
-    Ok(())
 }
 
 // Puts the line of the clock.

@@ -96,7 +96,14 @@ impl Script {
         let _clock = self.clock;
     }
 
-    /// The version, 1 or 2.
+    /// The version as a value to match on: `First` for 1, `Second` for 2.
+    pub fn version_kind(&self) -> Version
+        ensures { result ≡ self.now.version }
+    {
+        self.version
+    }
+
+    /// The number of the version, 1 or 2.
     pub fn version(&self) -> u8
         ensures { result ≡ version_number self.now.version }
     {

@@ -65,7 +65,7 @@ pub(crate) fn one_or(most: u64, values: &[u8]) -> Option<u64>
 pub(crate) type ButtonRow = (&'static str, u8);
 
 /// The controller's buttons.
-pub(crate) const BUTTONS: [ButtonRow; 8] = [
+pub(crate) static BUTTONS: [ButtonRow; 8] = [
     ("a", 0x01),
     ("b", 0x02),
     ("select", 0x04),
@@ -77,7 +77,7 @@ pub(crate) const BUTTONS: [ButtonRow; 8] = [
 ];
 
 /// The mouse's buttons, which are numbered from 1.
-pub(crate) const MOUSE_BUTTONS: [ButtonRow; 8] = [
+pub(crate) static MOUSE_BUTTONS: [ButtonRow; 8] = [
     ("1", 0x01),
     ("2", 0x02),
     ("3", 0x04),
@@ -88,17 +88,13 @@ pub(crate) const MOUSE_BUTTONS: [ButtonRow; 8] = [
     ("8", 0x80),
 ];
 
-static BUTTON_TABLE: [ButtonRow; 8] = BUTTONS;
-
-static MOUSE_BUTTON_TABLE: [ButtonRow; 8] = MOUSE_BUTTONS;
-
 // The bit of a controller's button.
 #[tactic(auto, unfolding(crate::specs::Values::bit_in))]
 pub(crate) fn button_bit(word: &[u8]) -> Option<u8>
     ensures button { result ≡ bit_in BUTTONS word.now }
     ensures bit { IfSome result IsBit }
 {
-    match row_named(BUTTON_TABLE.as_slice(), word) {
+    match row_named(BUTTONS.as_slice(), word) {
         Some(row) => Some(row.1),
         None => None,
     }
@@ -110,7 +106,7 @@ pub(crate) fn mouse_button_bit(word: &[u8]) -> Option<u8>
     ensures button { result ≡ bit_in MOUSE_BUTTONS word.now }
     ensures bit { IfSome result IsBit }
 {
-    match row_named(MOUSE_BUTTON_TABLE.as_slice(), word) {
+    match row_named(MOUSE_BUTTONS.as_slice(), word) {
         Some(row) => Some(row.1),
         None => None,
     }
@@ -127,7 +123,7 @@ fn row_named<'a>(rows: &'a [ButtonRow], word: &[u8]) -> Option<&'a ButtonRow>
 pub(crate) fn button_name(mask: u8) -> &'static [u8]
     ensures { result.now ≡ name_in BUTTONS mask }
 {
-    match row_of_bit(BUTTON_TABLE.as_slice(), mask) {
+    match row_of_bit(BUTTONS.as_slice(), mask) {
         Some(row) => row.0.as_bytes(),
         None => b"".as_slice(),
     }
@@ -138,7 +134,7 @@ pub(crate) fn button_name(mask: u8) -> &'static [u8]
 pub(crate) fn mouse_button_name(mask: u8) -> &'static [u8]
     ensures { result.now ≡ name_in MOUSE_BUTTONS mask }
 {
-    match row_of_bit(MOUSE_BUTTON_TABLE.as_slice(), mask) {
+    match row_of_bit(MOUSE_BUTTONS.as_slice(), mask) {
         Some(row) => row.0.as_bytes(),
         None => b"".as_slice(),
     }

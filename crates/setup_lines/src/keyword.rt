@@ -16,18 +16,16 @@ pub(crate) enum Keyword {
 }
 
 /// The lines of a setup.
-pub(crate) const ROWS: [Row<Keyword>; 4] = [
+pub(crate) static ROWS: [Row<Keyword>; 4] = [
     ("machine", Counts::Exactly(1), Keyword::Machine),
     ("script", Counts::Exactly(1), Keyword::Script),
     ("budget", Counts::Exactly(1), Keyword::Budget),
     ("turn", Counts::Exactly(2), Keyword::Turn),
 ];
 
-static TABLE: [Row<Keyword>; 4] = ROWS;
-
 // The lines of a setup.
 pub(crate) fn rows() -> &'static [Row<Keyword>]
     ensures { rows_in result.now ≡ ROWS }
 {
-    TABLE.as_slice()
+    ROWS.as_slice()
 }

@@ -18,7 +18,7 @@ use uxn_limits::limits;
 pub(crate) const DEBUG_ONLY: usize = 3;
 
 /// The options of `debug`, and behind its own those of `play`.
-pub(crate) const DEBUG: [Choice; 10] = [
+pub(crate) static DEBUG: [Choice; 10] = [
     ("commands", ChoiceKind::Required),
     ("log", ChoiceKind::Required),
     ("symbols", ChoiceKind::Optional),
@@ -32,20 +32,14 @@ pub(crate) const DEBUG: [Choice; 10] = [
 ];
 
 /// The options of `asm`.
-pub(crate) const ASSEMBLE: [Choice; 3] = [
+pub(crate) static ASSEMBLE: [Choice; 3] = [
     ("out", ChoiceKind::Required),
     ("symbols", ChoiceKind::Optional),
     ("listing", ChoiceKind::Optional),
 ];
 
 /// The options of `dis`.
-pub(crate) const DISASSEMBLE: [Choice; 1] = [("symbols", ChoiceKind::Optional)];
-
-static DEBUG_TABLE: [Choice; 10] = DEBUG;
-
-static ASSEMBLE_TABLE: [Choice; 3] = ASSEMBLE;
-
-static DISASSEMBLE_TABLE: [Choice; 1] = DISASSEMBLE;
+pub(crate) static DISASSEMBLE: [Choice; 1] = [("symbols", ChoiceKind::Optional)];
 
 /// The name under which the command's own item stands, which no option has.
 const OPERAND: &str = "";
@@ -56,10 +50,10 @@ impl Command {
         ensures { table_choices result.now ≡ choices_of self }
     {
         match self {
-            Command::Play => &DEBUG_TABLE[DEBUG_ONLY..],
-            Command::Debug => DEBUG_TABLE.as_slice(),
-            Command::Assemble => ASSEMBLE_TABLE.as_slice(),
-            Command::Disassemble => DISASSEMBLE_TABLE.as_slice(),
+            Command::Play => &DEBUG[DEBUG_ONLY..],
+            Command::Debug => DEBUG.as_slice(),
+            Command::Assemble => ASSEMBLE.as_slice(),
+            Command::Disassemble => DISASSEMBLE.as_slice(),
             Command::Generate | Command::Line => &[],
         }
     }

@@ -58,7 +58,7 @@ impl From<AllocError> for WordStop {
 }
 
 /// The commands by their names.
-pub(crate) const COMMANDS: [(&str, Command); 6] = [
+pub(crate) static COMMANDS: [(&str, Command); 6] = [
     ("play", Command::Play),
     ("debug", Command::Debug),
     ("asm", Command::Assemble),
@@ -67,13 +67,11 @@ pub(crate) const COMMANDS: [(&str, Command); 6] = [
     ("line", Command::Line),
 ];
 
-static COMMAND_TABLE: [(&str, Command); 6] = COMMANDS;
-
 /// The command of a name.
 fn command_named(name: &[u8]) -> Option<Command>
     ensures { result ≡ command_of name.now }
 {
-    match row_named(COMMAND_TABLE.as_slice(), name) {
+    match row_named(COMMANDS.as_slice(), name) {
         Some(row) => Some(row.1),
         None => None,
     }
