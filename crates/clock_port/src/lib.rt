@@ -3,13 +3,15 @@
 
 ghost use Rattle.std.specs.Prelude.{◌≡◌, ℕ, pos, neg_ℤ, ◌+ℤ◌, ◌*ℤ◌, ◌≤ℤ◌};
 ghost use Rattle.jiff.specs.Words.{civil_nanos};
+ghost use Rattle.clock_port.specs.declared.TheConstants.{LAST_SECOND, LAST_OFFSET};
 ghost use Rattle.clock_port.specs.Calendar.{IsDate, civil_fields, date_fields, day_number, fields_of};
 
 use jiff::Timestamp;
 use jiff::civil::DateTime;
 use jiff::tz::Offset;
 
-/// The greatest number of seconds that `fields` takes; the last of them lie in the year 9998.
+/// The greatest number of seconds that `fields` takes: that at which a script may begin, and the frames of its run. The last of
+/// them lie in the year 9998.
 pub const LAST_SECOND: i64 = 253_370_100_000;
 
 /// The greatest offset that `fields` takes, in minutes, to either side of UTC.
@@ -39,9 +41,9 @@ pub struct CivilFields {
 /// What a clock shows that many seconds after 1970-01-01 00:00:00 UTC, at an offset of so many minutes ahead of UTC.
 pub fn fields(seconds: i64, offset_minutes: i32) -> CivilFields
     requires seconds_from { pos 0 ≤ℤ seconds }
-    requires seconds_to { seconds ≤ℤ pos 253370100000 }
-    requires offset_from { neg_ℤ (pos 840) ≤ℤ offset_minutes }
-    requires offset_to { offset_minutes ≤ℤ pos 840 }
+    requires seconds_to { seconds ≤ℤ LAST_SECOND }
+    requires offset_from { neg_ℤ LAST_OFFSET ≤ℤ offset_minutes }
+    requires offset_to { offset_minutes ≤ℤ LAST_OFFSET }
     ensures { result ≡ civil_fields seconds offset_minutes }
 {
     let shown = shown_at(seconds, offset_minutes);
@@ -65,9 +67,9 @@ pub fn each_date_is_found()
 // The calendar's date and time at a moment.
 fn shown_at(seconds: i64, offset_minutes: i32) -> DateTime
     requires seconds_from { pos 0 ≤ℤ seconds }
-    requires seconds_to { seconds ≤ℤ pos 253370100000 }
-    requires offset_from { neg_ℤ (pos 840) ≤ℤ offset_minutes }
-    requires offset_to { offset_minutes ≤ℤ pos 840 }
+    requires seconds_to { seconds ≤ℤ LAST_SECOND }
+    requires offset_from { neg_ℤ LAST_OFFSET ≤ℤ offset_minutes }
+    requires offset_to { offset_minutes ≤ℤ LAST_OFFSET }
     ensures { civil_nanos result ≡ seconds *ℤ pos 1000000000 +ℤ offset_minutes *ℤ pos 60 *ℤ pos 1000000000 }
 {
     let moment = Timestamp::from_second(seconds).unwrap();

@@ -1,14 +1,19 @@
 -- Laws of the actions: they change nothing outside the root part, and a device goes on to suit its root.
-use Rattle.std.specs.Prelude.{◌≡◌, ℕ, Bool, true, false, not, ◌&&◌, ◌||◌, List, [], ◌∷◌, ◌++◌, take, drop, map as list_map}
-use Rattle.std.specs.Prelude.{Option, Some, None, Result, Ok, Err, IsTrue, if◌then◌else◌}
+use Rattle.std.specs.Prelude.{◌≡◌, ℕ, Bool, true, false, not, ◌&&◌, ◌||◌, List, [], ◌∷◌, take, drop, map as list_map}
+use Rattle.std.specs.Prelude.{Option, Some, None, IfSome, Result, Ok, Err, IsTrue, if◌then◌else◌}
 use Rattle.std.specs.Option.{option_map}
+use Rattle.std.specs.Str.{bytes_eq}
 use Rattle.std.specs.FinMap as map
 use Rattle.std.proofs.Common.{refl, ap, sym, subst, ◌∙◌}
+use Rattle.std.proofs.lemmas.Slice.Eq.{bytes_eq-Decides}
+use Rattle.uxn_io_traits.specs.AtPath.{path_changed, Spares}
+use Rattle.uxn_io_traits.specs.AtPathLaws.{node-by, spared-by}
+use Rattle.uxn_io_traits.specs.EachLaws.{each-map, each-so}
 use Rattle.uxn_io_traits.specs.PathText.{parent_of}
 use Rattle.uxn_io_traits.specs.Files.{Nodes, is_folder, is_folder_at}
-use Rattle.uxn_io_traits.specs.Outside.{Change, ToOut, ToErr, Creates, ToFile, Removes, changed_files, files_by}
+use Rattle.uxn_io_traits.specs.Outside.{Change, ToOut, ToErr, Creates, ToFile, Removes, files_by}
 use Rattle.uxn_memory.specs.Bytes.{bank0}
-use Rattle.file_ports.specs.RootPart.{is_in, LiesIn, below, parent_is_folder, path_changed, is_in_part, IsIn, LieIn}
+use Rattle.file_ports.specs.RootPart.{is_in, LiesIn, below, parent_is_folder, is_in_part, IsIn, LieIn}
 use Rattle.file_ports.specs.Device.{FileState, idle_at, suits, Suits, is_writing}
 use Rattle.file_ports.specs.Actions.{FileAction, FileOutcome, Name, Read, Write, Stat, Delete, is_file, begun, adds, quiet, acts}
 use Rattle.file_ports.specs.Actions.{act, observed_in, observed_file, count_from}
@@ -16,11 +21,7 @@ use Rattle.file_ports.specs.AnswersAction.{file_outcome_of, changes_unknown, cha
 use Rattle.file_ports.specs.declared.stop.FileStop.{FileStop}
 use Rattle.uxn_io_traits.specs.Ended.{IsOfTree, AreOfTree}
 use Rattle.file_ports.specs.BeneathLaws.{is_in-Decides, parent_outside}
-use Rattle.file_ports.specs.PartLaws.{changed_elsewhere, named-suits, outcome-same}
-
-pub lie-prefix : (root : Option (List ℕ)) (first more : List Change) → LieIn root (first ++ more) → LieIn root first
-lie-prefix root [] more lie = tt
-lie-prefix root (change ∷ first) more lie = (lie.0, lie-prefix root first more lie.1)
+use Rattle.file_ports.specs.PartLaws.{named-suits, outcome-same}
 
 in_part : (root : Option (List ℕ)) (path : List ℕ) → IsTrue (suits root (Some path)) → IsTrue (is_in_part root (Some path))
 in_part None path lies = lies
@@ -28,8 +29,7 @@ in_part (Some root) path lies = lies
 
 pub pieces_lie : (root : Option (List ℕ)) (path piece : List ℕ) → IsTrue (suits root (Some path))
     → LieIn root (list_map (λ byte. ToFile path byte) piece)
-pieces_lie root path [] lies = tt
-pieces_lie root path (byte ∷ piece) lies = (in_part root path lies, pieces_lie root path piece lies)
+pieces_lie root path piece lies = each-map (IsIn root) (λ byte. ToFile path byte) piece (λ byte. in_part root path lies)
 
 added_lie : (root : Option (List ℕ)) (on writes can : Bool) (path memory piece : List ℕ) → IsTrue (suits root (Some path))
     → LieIn root (adds path memory piece (if on then Some [] else if not writes && can then Some (Creates path ∷ []) else None)).changes
@@ -116,18 +116,28 @@ pub act-nowhere : (action : FileAction) (root : Option (List ℕ)) (part : Nodes
 act-nowhere action root part parent device memory e =
     ap (λ (p : Option (List ℕ)). acts action root device memory (option_map (observed_in root part parent) p)) e
 
--- every path outside the root part keeps its node
-stranger_to : (root : Option (List ℕ)) (change : Change) (q : List ℕ) → IsIn root change → suits root (Some q) ≡ false
-    → path_changed change ≡ Some q → ⊥
-stranger_to None change q lies out e = let no : false ≡ true = sym (ap (is_in_part None) e) ∙ lies in cc
-stranger_to (Some root) change q lies out e = let no : false ≡ true = sym out ∙ sym (ap (is_in_part (Some root)) e) ∙ lies in cc
+-- changes in the root part are of other paths than those outside it
+apart : (root path other : List ℕ) (same : Bool) → bytes_eq path other ≡ same → is_in root other ≡ true → is_in root path ≡ false
+    → same ≡ false
+apart root path other true e lies out =
+    let no : false ≡ true = sym out ∙ ap (is_in root) ((bytes_eq-Decides path other).0 e) ∙ lies in cc
+apart root path other false e lies out = refl
 
+elsewhere : (root : Option (List ℕ)) (path : List ℕ) (other : Option (List ℕ)) → IsTrue (is_in_part root other)
+    → suits root (Some path) ≡ false → IfSome other (λ other. bytes_eq path other ≡ false)
+elsewhere root path None lies out = tt
+elsewhere None path (Some other) lies out = cc
+elsewhere (Some root) path (Some other) lies out = apart root path other (bytes_eq path other) refl lies out
+
+pub lies-elsewhere : (root : Option (List ℕ)) (path : List ℕ) → suits root (Some path) ≡ false → (change : Change) → IsIn root change
+    → Spares path change
+lies-elsewhere root path out change lies = elsewhere root path (path_changed change) lies out
+
+-- so every path outside the root part keeps its node
 pub outside-kept : (root : Option (List ℕ)) (q : List ℕ) (changes : List Change) (nodes : Nodes) → LieIn root changes
     → suits root (Some q) ≡ false → map.get (files_by nodes changes) q ≡ map.get nodes q
-outside-kept root q [] nodes lie out = refl
-outside-kept root q (change ∷ changes) nodes lie out =
-    outside-kept root q changes (changed_files change nodes) lie.1 out
-    ∙ changed_elsewhere change q nodes (stranger_to root change q lie.0 out)
+outside-kept root q changes nodes lie out =
+    node-by q nodes changes ∙ spared-by q changes (map.get nodes q) (each-so (IsIn root) (Spares q) changes (lies-elsewhere root q out) lie)
 
 -- the root's parent is a folder as before
 outside_part : (root p : List ℕ) (b : Bool) → is_in root p ≡ b → (LiesIn root p → ⊥) → b ≡ false
@@ -158,8 +168,7 @@ one-of-tree root (ToFile path byte) lies = tt
 one-of-tree root (Removes path) lies = tt
 
 pub of-tree : (root : Option (List ℕ)) (changes : List Change) → LieIn root changes → AreOfTree changes
-of-tree root [] lie = tt
-of-tree root (change ∷ changes) lie = (one-of-tree root change lie.0, of-tree root changes lie.1)
+of-tree root changes lie = each-so (IsIn root) IsOfTree changes (one-of-tree root) lie
 
 -- so do those of a call
 changes-at : (action : FileAction) (root : Option (List ℕ)) (nodes : Nodes) (device : FileState) (memory : List ℕ)

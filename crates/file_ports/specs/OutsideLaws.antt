@@ -1,5 +1,5 @@
 -- Laws of files outside the root part: actions leave them alone, and what is added to them leaves the root part alone.
-use Rattle.std.specs.Prelude.{◌≡◌, ℕ, Bool, true, false, IsTrue, IsSome, is_some, List, [], ◌∷◌, ◌++◌, Option, Some, None}
+use Rattle.std.specs.Prelude.{◌≡◌, ℕ, Bool, true, false, IsSome, is_some, List, [], ◌∷◌, ◌++◌, Option, Some, None}
 use Rattle.std.specs.Str.{bytes_eq}
 use Rattle.std.specs.FinMap as map
 use Rattle.std.proofs.Common.{refl, ap, sym, ◌∙◌}
@@ -9,29 +9,10 @@ use Rattle.uxn_io_traits.specs.Files.{Node, File, Folder, Nodes, bytes_of, file_
 use Rattle.uxn_io_traits.specs.Changes.{with_appended}
 use Rattle.uxn_io_traits.specs.NodeLaws.{get_put, put_elsewhere}
 use Rattle.uxn_io_traits.specs.Outside.{Change, files_by}
-use Rattle.file_ports.specs.RootPart.{is_in, below, parent_is_folder, path_changed, is_in_part, LieIn, IsElsewhere, AreElsewhere}
+use Rattle.file_ports.specs.RootPart.{is_in, below, parent_is_folder, LieIn}
 use Rattle.file_ports.specs.Device.{suits}
 use Rattle.file_ports.specs.PartLaws.{below-same}
 use Rattle.file_ports.specs.ActLaws.{outside-kept}
-
-apart : (root path other : List ℕ) (same : Bool) → bytes_eq path other ≡ same → is_in root other ≡ true → is_in root path ≡ false
-    → same ≡ false
-apart root path other true e lies out =
-    let no : false ≡ true = sym out ∙ ap (is_in root) ((bytes_eq-Decides path other).0 e) ∙ lies in cc
-apart root path other false e lies out = refl
-
--- changes in the root part are of other paths than those outside it
-pub elsewhere-one : (root : Option (List ℕ)) (path : List ℕ) (other : Option (List ℕ)) → IsTrue (is_in_part root other)
-    → suits root (Some path) ≡ false → IsElsewhere path other
-elsewhere-one root path None lies out = tt
-elsewhere-one None path (Some other) lies out = cc
-elsewhere-one (Some root) path (Some other) lies out = apart root path other (bytes_eq path other) refl lies out
-
-pub elsewhere : (root : Option (List ℕ)) (path : List ℕ) (changes : List Change) → LieIn root changes
-    → suits root (Some path) ≡ false → AreElsewhere path changes
-elsewhere root path [] lie out = tt
-elsewhere root path (change ∷ changes) lie out =
-    (elsewhere-one root path (path_changed change) lie.0 out, elsewhere root path changes lie.1 out)
 
 -- a file outside the root part is there still after them, with its bytes
 pub file-kept : (root : Option (List ℕ)) (path : List ℕ) (changes : List Change) (nodes : Nodes) → LieIn root changes

@@ -1,5 +1,5 @@
 -- Laws of the root part: what is observed in it is what is observed in the whole tree, and changes in it are changes of it.
-use Rattle.std.specs.Prelude.{◌≡◌, ℕ, Bool, true, false, not, ◌&&◌, List, [], ◌∷◌, ◌++◌, Option, Some, None, IsTrue, codes}
+use Rattle.std.specs.Prelude.{◌≡◌, ℕ, Bool, true, false, not, ◌&&◌, List, [], ◌∷◌, ◌++◌, Option, Some, None, IfSome, IsTrue, codes}
 use Rattle.std.specs.Prelude.{map as list_map, if◌then◌else◌}
 use Rattle.std.specs.List.{filter_map, cons_option}
 use Rattle.std.specs.Option.{unwrap_or, option_map, option_and_then, option_eq}
@@ -9,16 +9,20 @@ use Rattle.std.specs.Cmp.Lexicographic.{slice_cmp, nat_list_cmp_total}
 use Rattle.std.specs.Str.{bytes_eq}
 use Rattle.std.specs.FinMap as map
 use Rattle.std.specs.FinMap.Entries.{where_key, is_sorted-where_key, find-where_key}
-use Rattle.std.proofs.Common.{cond, refl, ap, sym, ◌∙◌, inl, inr}
+use Rattle.std.proofs.Common.{cond, refl, ap, sym, ◌∙◌, inl, inr, arith}
+use Rattle.std.proofs.lemmas.Grind.{common_steps}
 use Rattle.std.proofs.lemmas.Slice.Eq.{bytes_eq-Decides}
 use Rattle.uxn_io_traits.specs.PathText.{path_of, joined, parent_of, child_name}
 use Rattle.uxn_io_traits.specs.Files.{Node, File, Nodes, bytes_of, file_bytes_at, kind_of, is_folder, is_folder_at, has_parent}
 use Rattle.uxn_io_traits.specs.Changes.{can_create, with_appended}
 use Rattle.uxn_io_traits.specs.AppendingLaws.{appended_both}
 use Rattle.uxn_io_traits.specs.Children.{children, entry_in}
-use Rattle.uxn_io_traits.specs.Outside.{Change, ToOut, ToErr, Creates, ToFile, Removes, changed_files, files_by}
-use Rattle.uxn_io_traits.specs.NodeLaws.{tied_path, same_path, same_nodes, put_elsewhere, taken_elsewhere}
-use Rattle.file_ports.specs.RootPart.{is_in, LiesIn, below, parent_is_folder, path_changed, IsIn, LieIn}
+use Rattle.uxn_io_traits.specs.AtPath.{contents_at}
+use Rattle.uxn_io_traits.specs.AtPathLaws.{node_by, node-by}
+use Rattle.uxn_io_traits.specs.ChangeLaws.{files-contents}
+use Rattle.uxn_io_traits.specs.Outside.{Change, ToOut, ToErr, Creates, ToFile, Removes, World, changed_files, changed_by, files_by}
+use Rattle.uxn_io_traits.specs.NodeLaws.{tied_path, same_path, same_nodes}
+use Rattle.file_ports.specs.RootPart.{is_in, LiesIn, below, parent_is_folder, IsIn, LieIn}
 use Rattle.file_ports.specs.Device.{FileState, idle_at, suits, Suits}
 use Rattle.file_ports.specs.Names.{bytes_around, before_zero, named_in, path_named}
 use Rattle.file_ports.specs.Actions.{FileAction, Observed, can_make_in, observed_in, observed_file, acts}
@@ -201,15 +205,6 @@ below-files_by (Some root) (change ∷ changes) nodes lie =
     below-files_by (Some root) changes (changed_files change nodes) lie.1
     ∙ ap (λ (m : Nodes). files_by m changes) (below-change root change nodes lie.0)
 
--- a change leaves the node at every other path
-pub changed_elsewhere : (change : Change) (q : List ℕ) (nodes : Nodes) → (path_changed change ≡ Some q → ⊥)
-    → map.get (changed_files change nodes) q ≡ map.get nodes q
-changed_elsewhere (ToOut byte) q nodes other = refl
-changed_elsewhere (ToErr byte) q nodes other = refl
-changed_elsewhere (Creates path) q nodes other = put_elsewhere nodes path q (File []) (λ e. other (ap (λ (p : List ℕ). Some p) (sym e)))
-changed_elsewhere (ToFile path byte) q nodes other = put_elsewhere nodes path q _ (λ e. other (ap (λ (p : List ℕ). Some p) (sym e)))
-changed_elsewhere (Removes path) q nodes other = taken_elsewhere nodes path q (λ e. other (ap (λ (p : List ℕ). Some p) (sym e)))
-
 -- bytes added one after the other
 pub files_by-file : (nodes : Nodes) (path piece : List ℕ)
     → files_by nodes (list_map (λ byte. ToFile path byte) piece) ≡ with_appended path piece nodes
@@ -237,3 +232,25 @@ named_suits root (Some name) = chosen_path (bytes_eq name (codes ".")) root name
 pub named-suits : (root : Option (List ℕ)) (memory : List ℕ) (at : ℕ) → Suits root (idle_at (path_named root memory at))
 named-suits None memory at = refl
 named-suits (Some root) memory at = named_suits root (before_zero (bytes_around memory at))
+
+-- what is the same beneath a root is so after the same changes
+same-below : (root : Option (List ℕ)) (m n : Nodes) → IfSome root (λ r. (path : List ℕ) → is_in r path ≡ true → map.get m path ≡ map.get n path)
+    → below root m ≡ below root n
+same-below None m n e = refl
+same-below (Some root) m n e = below-same root m n e
+
+pub same-part : (root : Option (List ℕ)) (m n : Nodes) (changes : List Change) → below root m ≡ below root n
+    → below root (files_by m changes) ≡ below root (files_by n changes)
+same-part None m n changes e = refl
+same-part (Some root) m n changes e =
+    below-same root (files_by m changes) (files_by n changes)
+    (λ path inside. node-by path m changes
+    ∙ ap (node_by path changes) (sym (get_in root m path inside) ∙ ap (λ part. map.get part path) e ∙ get_in root n path inside)
+    ∙ sym (node-by path n changes))
+
+-- changes that leave the same at each path beneath a root leave the same root part
+pub parts-same : (before : World) (root : Option (List ℕ)) (xs ys : List Change)
+    → IfSome root (λ r. (path : List ℕ) → is_in r path ≡ true
+    → contents_at path (changed_by before xs).files ≡ contents_at path (changed_by before ys).files)
+    → option_map (below root) (changed_by before xs).files ≡ option_map (below root) (changed_by before ys).files
+parts-same = grind (arith, common_steps, files-contents, same-below)

@@ -1,10 +1,12 @@
 -- The part of a tree that file devices see: the root and what lies beneath it (profile).
-use Rattle.std.specs.Prelude.{◌≡◌, ℕ, ◌⊎◌, Bool, false, IsTrue, ⊤, ◌||◌, List, [], ◌∷◌, Option, Some, None}
+use Rattle.std.specs.Prelude.{◌≡◌, ℕ, ◌⊎◌, Bool, false, IsTrue, ◌||◌, List, Option, Some, None}
+use Rattle.std.specs.List.{AllByRecursion}
 use Rattle.std.specs.Str.{bytes_eq}
 use Rattle.std.specs.FinMap as map
 use Rattle.uxn_io_traits.specs.PathText.{is_under, ContinuesAfter}
 use Rattle.uxn_io_traits.specs.Files.{Nodes, has_parent}
-use Rattle.uxn_io_traits.specs.Outside.{Change, ToOut, ToErr, Creates, ToFile, Removes}
+use Rattle.uxn_io_traits.specs.AtPath.{path_changed}
+use Rattle.uxn_io_traits.specs.Outside.{Change}
 
 -- the root's own path, or one beneath it
 unfoldable pub is_in : List ℕ → List ℕ → Bool
@@ -23,14 +25,6 @@ abbrev pub parent_is_folder : Option (List ℕ) → Nodes → Bool
 parent_is_folder None nodes = false
 parent_is_folder (Some root) nodes = has_parent nodes root
 
--- the path whose file a change changes
-abbrev pub path_changed : Change → Option (List ℕ)
-path_changed (ToOut byte) = None
-path_changed (ToErr byte) = None
-path_changed (Creates path) = Some path
-path_changed (ToFile path byte) = Some path
-path_changed (Removes path) = Some path
-
 -- a change of a file in the root part
 abbrev pub is_in_part : Option (List ℕ) → Option (List ℕ) → Bool
 is_in_part root None = false
@@ -42,15 +36,4 @@ IsIn root change = IsTrue (is_in_part root (path_changed change))
 
 -- all of these changes are
 abbrev pub LieIn : Option (List ℕ) → List Change → Type 0
-LieIn root [] = ⊤
-LieIn root (change ∷ changes) = IsIn root change × LieIn root changes
-
--- what is changed is another path than this one, or none
-abbrev pub IsElsewhere : List ℕ → Option (List ℕ) → Type 0
-IsElsewhere path None = ⊤
-IsElsewhere path (Some other) = bytes_eq path other ≡ false
-
--- by each of these changes
-abbrev pub AreElsewhere : List ℕ → List Change → Type 0
-AreElsewhere path [] = ⊤
-AreElsewhere path (change ∷ changes) = IsElsewhere path (path_changed change) × AreElsewhere path changes
+LieIn root = AllByRecursion (IsIn root)

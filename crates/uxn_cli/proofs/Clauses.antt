@@ -110,7 +110,8 @@ module _ (c : Call) (comes : ComesOut c) where
   ]
 
   -- a refusal puts its one line on the error output, and nothing else
-  pub refusal_of : IsRefusing c.status → (refusal : Refusal) × HasOutcome (outcome_of c.before.world.files (Err refusal)) c.before.world c.now.world c.status
+  pub refusal_of : IsRefusing c.status
+      → (refusal : Refusal) × HasOutcome (outcome_of c.before.world.files (Err refusal)) c.before.world c.now.world c.status
   refusal_of refusing = refusal_by _ _ _ _ (elim either_way [ inl done ↦ inl done | inr early ↦ inr (early_is early) ]) refusing
 
   pub line_put : (refusing : IsRefusing c.status)
@@ -170,9 +171,6 @@ answers_step : (requested : Result Task Refusal) (before now : World) (result : 
 answers_step requested before now (Ok status) performs = performs
 answers_step requested before now (Err stop) performs = performs
 
-blameless : (answer : ℕ) → (answer ≡ 136 → ⊥) → (answer ≡ 137 → ⊥) → status_blame answer ≡ Nobody
-blameless answer tree sink = grind (arith, nat_tests)
-
 -- the status says who is to blame
 blame_as : (requested : Result Task Refusal) (before now : World) (result : Result ℕ Stop) → AnswersCall requested before now result
     → status_blame (step_status result) ≡ result_blame (as_step result)
@@ -188,11 +186,11 @@ comes_out = grind (arith, common_steps, answers_step, blame_as)
 
 -- what is to be done over a tree leaves a path alone that is no output and lies outside the root
 found-spares : (requested : Result Task Refusal) (files : Option Nodes) (nodes : Nodes) (path : List ℕ) → IfOk requested (λ task. IsAside task path)
-    → Each (Spares path) (outcome_of files (tree_verdict nodes requested)).changes
+    → AllByRecursion (Spares path) (outcome_of files (tree_verdict nodes requested)).changes
 found-spares (Err refusal) files nodes path aside = outcome-spares path files (Err refusal) refl refl
 found-spares (Ok task) files nodes path aside = go (tree_verdict nodes (Ok task)) (found-gives (Some nodes) task (tree_verdict nodes (Ok task)) refl)
   where
-    go : (found : Result Work Refusal) → IsOfInputs (Writes task) found → Each (Spares path) (outcome_of files found).changes
+    go : (found : Result Work Refusal) → IsOfInputs (Writes task) found → AllByRecursion (Spares path) (outcome_of files found).changes
     go (Err refusal) writes = outcome-spares path files (Err refusal) refl refl
     go (Ok work) writes = outcome-spares path files (Ok work) (ap (list_any (bytes_eq path)) writes.paths ∙ aside.output)
         (ap (λ root. suits root (Some path)) writes.root ∙ aside.outside)
@@ -219,71 +217,7 @@ module _ (c : Call) (comes : ComesOut c) where
     one_line = puts_line c comes;
   }
 
--- ==== What a file holds, where the changes that write it were truncated.
-
-module _ (path : List ℕ) where
-  -- the file at the path gets more bytes
-  abbrev GetsMore : List ℕ → List Change → Type 0
-  GetsMore bytes changes = (more : List ℕ) × (node_by path changes (Some (File bytes)) ≡ Some (File (bytes ++ more)))
-
-  added : (bytes : List ℕ) (changes : List Change) → Each (Adds path) changes → GetsMore bytes changes
-  added bytes [] adds = ([], ap (λ b. Some (File b)) (sym (append-nil bytes)))
-  added bytes (ToOut byte ∷ changes) adds = added bytes changes adds.1
-  added bytes (ToErr byte ∷ changes) adds = added bytes changes adds.1
-  added bytes (Creates other ∷ changes) adds = rw adds.0 (added bytes changes adds.1)
-  added bytes (Removes other ∷ changes) adds = rw adds.0 (added bytes changes adds.1)
-  added bytes (ToFile other byte ∷ changes) adds = go (bytes_eq path other) (λ first. added first changes adds.1)
-    where
-      go : (b : Bool) → ((first : List ℕ) → GetsMore first changes)
-          → (more : List ℕ) × (node_by path changes (cond b (Some (File (bytes ++ byte ∷ []))) (Some (File bytes))) ≡ Some (File (bytes ++ more)))
-      go false rest = rest bytes
-      go true rest = let all = rest (bytes ++ byte ∷ []) in
-          (byte ∷ all.0, all.1 ∙ ap (λ b. Some (File b)) (append_assoc bytes (byte ∷ []) all.0))
-
-  -- the node is as it was, or a prefix of the file that is to be there
-  abbrev IsPrefix : Option Node → Option Node → Option Node → Type 0
-  IsPrefix before now whole = (now ≡ before)
-      ⊎ ((bytes : List ℕ) × (rest : List ℕ) × (now ≡ Some (File bytes)) × (whole ≡ Some (File (bytes ++ rest))))
-
-  -- a file is made among others, all of which are then added to
-  module _ (later rest : List Change) (adds : Each (Adds path) later) (before : Option Node) where
-    abbrev Prefixes : Option Node → List Change → Type 0
-    Prefixes there made = IsPrefix before (node_by path made there) (node_by path (made ++ rest) there)
-
-    made-prefix : (made : List Change) → later ≡ made ++ rest → Prefixes (Some (File [])) made
-    made-prefix made parts =
-        let all = each-parts (Adds path) made rest (subst (Each (Adds path)) parts adds) in
-        let first = added [] made all.0 in
-        let last = added first.0 rest all.1 in
-        inr (first.0, last.0, first.1, node-append path made rest (Some (File [])) ∙ ap (node_by path rest) first.1 ∙ last.1)
-
-    created : (paths : List (List ℕ)) → node_by path (creating_all paths) (Some (File [])) ≡ Some (File [])
-    created [] = refl
-    created (other ∷ paths) = let rest = created paths in grind (arith, common_steps, rest)
-
-    -- it waits to be made, or is made and empty
-    abbrev Waits : List (List ℕ) → Option Node → Type 0
-    Waits paths there = ((there ≡ before) × (list_any (bytes_eq path) paths ≡ true)) ⊎ (there ≡ Some (File []))
-
-    pub prefix-of : (paths : List (List ℕ)) (there : Option Node) (made : List Change) → creating_all paths ++ later ≡ made ++ rest
-        → Waits paths there → Prefixes there made
-    prefix-of [] there made parts (inl waits) = absurd (let among = waits.1 in cc)
-    prefix-of [] there made parts (inr is) = rw is (made-prefix made parts)
-    prefix-of (other ∷ paths) there [] parts (inl waits) = inl waits.0
-    prefix-of (other ∷ paths) there [] parts (inr is) =
-        let all = added [] later adds in
-        rw is (inr (
-          [],
-          all.0,
-          refl,
-          ap (λ changes. node_by path changes (Some (File []))) (sym parts)
-              ∙ node-append path (creating_all (other ∷ paths)) later (Some (File [])) ∙ ap (node_by path later) (created (other ∷ paths)) ∙ all.1,
-        ))
-    prefix-of (other ∷ paths) there (change ∷ made) parts state =
-        let same : Creates other ≡ change = cc in
-        let more : creating_all paths ++ later ≡ made ++ rest = cc in
-        subst (λ (c : Change). Prefixes there (c ∷ made)) same
-        (prefix-of paths (node_after path (Creates other) there) made more (grind (arith, common_steps)))
+-- ==== What stands after an early end.
 
 -- what is written by work that was truncated
 pub holds-prefix : (path : List ℕ) (requested : Result Task Refusal) (before : World) (nodes : Nodes) (made rest : List Change)
@@ -294,9 +228,6 @@ pub holds-prefix : (path : List ℕ) (requested : Result Task Refusal) (before :
 holds-prefix path (Err refusal) before nodes made rest apart contents parts whole = absurd cc
 holds-prefix path (Ok task) before nodes made rest apart contents parts whole = go (tree_verdict nodes (Ok task)) refl parts whole
   where
-    stands : (changes : List Change) → contents_at path (changed_by before changes).files ≡ Some (node_by path changes (fin.get nodes path))
-    stands changes = contents-by path before changes ∙ ap (λ files. option_map (node_by path changes) (contents_at path files)) contents
-
     go : (found : Result Work Refusal) → tree_verdict nodes (Ok task) ≡ found → (outcome_of before.files found).changes ≡ made ++ rest
         → IsOutputOf found path
         → HoldsFilePrefix (contents_at path before.files) (contents_at path (changed_by before made).files)
@@ -307,40 +238,7 @@ holds-prefix path (Ok task) before nodes made rest apart contents parts whole = 
         let outside = outputs-outside task path apart (ap (list_any (bytes_eq path)) (sym writes.paths) ∙ w) in
         let adds = later-keeps path (Adds path) (spares-adds path) before.files (Ok work) (rw writes.root outside)
         (each-of _ (λ file byte. tt) (written_paths (Ok work))) in
-        let first = sym (made-first before.files (Ok work)) ∙ p in
-        rw (stands made, p, stands (made ++ rest), contents)
-        (elim (prefix-of path _ rest adds (fin.get nodes path) (written_paths (Ok work)) (fin.get nodes path) made first (inl (refl, w))) [
-          | inl same ↦ inl (ap Some same)
-          | inr prefix ↦ inr (prefix.0, prefix.1, ap Some prefix.2, ap Some prefix.3)
-        ])
-
--- ---- what stands after an early end
-
-put_more : (contents : Option (List ℕ)) (byte : ℕ) (whole : Option (List ℕ)) → IsPrefixOf (extended contents (byte ∷ [])) whole
-    → IsPrefixOf contents whole
-put_more contents byte whole prefix = record { rest = byte ∷ prefix.rest; is = prefix.is ∙ extended-extended contents (byte ∷ []) prefix.rest }
-
--- changes add to the outputs
-adds_to : (w : World) (changes : List Change) → IsPrefixOf w.out (changed_by w changes).out × IsPrefixOf w.err (changed_by w changes).err
-adds_to w [] = (record { rest = []; is = sym (extended-nothing w.out) }, record { rest = []; is = sym (extended-nothing w.err) })
-adds_to w (ToOut byte ∷ changes) = let more = adds_to (changed w (ToOut byte)) changes in (put_more w.out byte _ more.0, more.1)
-adds_to w (ToErr byte ∷ changes) = let more = adds_to (changed w (ToErr byte)) changes in (more.0, put_more w.err byte _ more.1)
-adds_to w (Creates path ∷ changes) = adds_to (changed w (Creates path)) changes
-adds_to w (ToFile path byte ∷ changes) = adds_to (changed w (ToFile path byte)) changes
-adds_to w (Removes path ∷ changes) = adds_to (changed w (Removes path)) changes
-
--- outputs of what is requested do not clash
-requested_apart : (words : List (List ℕ)) → IfOk (request words) HasApartOutputs
-unfolding request
-requested_apart words = named (refused (task_of words))
-  where
-    clashing : (task : Task) (clash : Option (List ℕ)) → first_clash task ≡ clash → IfOk (validated_clash task clash) HasApartOutputs
-    clashing task None is = is
-    clashing task (Some path) is = tt
-
-    named : (said : Result Task Refusal) → IfOk (then_steps said apart) HasApartOutputs
-    named (Err refusal) = tt
-    named (Ok task) = clashing task (first_clash task) refl
+        rw p (file-prefix path (written_paths (Ok work)) _ made rest before w adds (sym (made-first before.files (Ok work)) ∙ p))
 
 -- a prefix of the changes gives a prefix of each
 pub leaves_prefixes : (c : Call) → IsCutShort c → LeavesPrefixes c
@@ -351,8 +249,8 @@ leaves_prefixes c short =
     (λ nodes contents is early.
     let verdict = tree_verdict nodes (call_request c) in
     let cut = is early in
-    let first = adds_to before cut.made in
-    let last = adds_to (changed_by before cut.made) cut.rest in
+    let first = changed_by-adds before cut.made in
+    let last = changed_by-adds (changed_by before cut.made) cut.rest in
     let whole : changed_by before (outcome_of before.files verdict).changes ≡ changed_by (changed_by before cut.made) cut.rest =
     ap (changed_by before) cut.parts ∙ changed_by-append before cut.made cut.rest in
     subst (HoldsPrefixes verdict before) (sym cut.left) (record {
@@ -363,114 +261,27 @@ leaves_prefixes c short =
 
 -- ==== `debug` and `play` with the same items.
 
-pub same_ok : {A : Type 0} (x y : A) → ◌≡◌ {A = Result A Refusal} (Ok x) (Ok y) → x ≡ y
-same_ok x y e = cc
-
--- ---- the words
-
--- outputs that do not clash
-is_apart : (task found : Task) → apart task ≡ Ok found → (task ≡ found) × (first_clash task ≡ None)
-is_apart = grind (arith, common_steps, same_ok)
-
-module _ (run : RunTask) (debug : DebugTask) where
-  abbrev debugs : Task
-  debugs = tasks.Run run (Some debug)
-
-  abbrev plays : Task
-  plays = tasks.Run run None
-
-  -- what `play` reads `debug` reads too
-  inputs-fewer : (path : List ℕ) → list_any (bytes_eq path) (inputs_of debugs) ≡ false → list_any (bytes_eq path) (inputs_of plays) ≡ false
-  inputs-fewer = grind (arith, common_steps, or_parts, list_any-append)
-
-  clash-fewer : first_clash debugs ≡ None → first_clash plays ≡ None
-  clash-fewer none =
-      let root = option_to_list run.root in
-      let written = run_outputs run None in
-      let places = root ++ (debug.log ∷ written) in
-      none_each (clashes (inputs_of debugs) places) (clashes (inputs_of plays) (root ++ written)) written
-      (λ path apart.
-      let both = clash_parts (inputs_of debugs) places path apart in
-      let all = count-parts (meets path) root (debug.log ∷ written) in
-      let last = count-first (meets path) debug.log written in
-      clash_from (inputs_of plays) (root ++ written) path (omega (arith, both.0, count-parts (meets path) root written, all, last))
-      (inputs-fewer path both.1))
-      (none_last (clashes (inputs_of debugs) places) (debug.log ∷ []) written none)
-
-pub record AskForBoth (words others : List (List ℕ)) (run : RunTask) (debug : DebugTask) : Type 0 where
-  pub apart : first_clash (tasks.Run run (Some debug)) ≡ None
-  pub debugs : request words ≡ Ok (tasks.Run run (Some debug))
-  pub plays : request others ≡ Ok (tasks.Run run None)
-
-pub ask-both : (words others : List (List ℕ)) (requested : Task) (items : HaveSameItems words others) → request words ≡ Ok requested
-    → AskForBoth words others items.run items.debug
-ask-both = grind (arith, common_steps, is_apart, words-read, clash-fewer)
-
--- ---- the inputs
-
--- what is not named asks for nothing
-no-symbols : (nodes : Nodes) → answer_in nodes (symbols_of None) ≡ Ok None
-unfolding symbols_of requested_text
-no-symbols nodes = refl
-
-no-commands : (nodes : Nodes) (labels : List Label) → answer_in nodes (commands_of labels None) ≡ Ok []
-unfolding commands_of requested_text
-no-commands nodes labels = refl
-
--- `debug` plans a run under a debugger, and `play` the same run of a source that includes the same files
-record PlanOneRun (nodes : Nodes) (run : RunTask) (debug : DebugTask) (accepted : Plan) : Type 0 where
-  job : RunJob
-  debugging : Debugging
-  asked : debugging.task ≡ debug
-  debugs : accepted.work ≡ Run (watched job debugging)
-  plays : answer_in nodes (plan_of (tasks.Run run None)) ≡ Ok (planned (Run (unwatched job)) accepted.included)
-
-plays-plan : (nodes : Nodes) (run : RunTask) (debug : DebugTask) (accepted : Plan)
-    → answer_in nodes (plan_of (tasks.Run run (Some debug))) ≡ Ok accepted → PlanOneRun nodes run debug accepted
-unfolding run_plan_of run_of
-plays-plan nodes run debug accepted e =
-    let all = answered nodes (run_of run (Some debug)) _ accepted e in
-    let program = answered nodes (program_of run.rom run.file) _ all.value all.first in
-    let labels = answered nodes (symbols_of debug.symbols) _ all.value program.rest in
-    let script = answered nodes (script_of run.script) _ all.value labels.rest in
-    let commands = answered nodes (commands_of (debug_labels labels.value program.value) (Some debug.commands)) _ all.value script.rest in
-    let given : record { program = program.value; labels = labels.value; script = script.value; commands = commands.value } ≡ all.value =
-    same_ok _ all.value commands.rest in
-    let is : run_plan run (Some debug)
-    (record { program = program.value; labels = labels.value; script = script.value; commands = commands.value }) ≡ accepted =
-    ap (run_plan run (Some debug)) given ∙ same_ok _ accepted all.rest in
-    let plays : answer_in nodes (run_of run None) ≡ Ok (record { program = program.value; labels = None; script = script.value; commands = [] }) =
-    answer-more nodes (program_of run.rom run.file) _ program.value program.first
-    ∙ answer-more nodes (symbols_of None) _ None (no-symbols nodes)
-    ∙ answer-more nodes (script_of run.script) _ script.value script.first
-    ∙ answer-more nodes (commands_of (debug_labels None program.value) None) _ [] (no-commands nodes (debug_labels None program.value)) in
-    let job : RunJob = record { task = run; rom = program.value.rom; script = script.value; debug = None } in
-    record {
-      job = job;
-      debugging = debugging debug commands.value (debug_labels labels.value program.value);
-      asked = refl;
-      debugs = ap (λ (p : Plan). p.work) (sym is);
-      plays = answer-more nodes (run_of run None) _ _ plays
-          ∙ ap (λ included. Ok (planned (Run job) included)) (ap (λ (p : Plan). p.included) is);
-    }
-
+-- `debug` results in a run under a debugger, and `play` in the same run
 pub plays-too : (nodes : Nodes) (run : RunTask) (debug : DebugTask) (work : Work) → tree_verdict nodes (Ok (tasks.Run run (Some debug))) ≡ Ok work
     → (one : ComeToOneRun (Ok work) (tree_verdict nodes (Ok (tasks.Run run None)))) × (one.debugging.task ≡ debug)
-unfolding work_of
+unfolding work_of run_plan_of
 plays-too nodes run debug work e =
     let written = run_outputs run None in
     let plan = answered nodes (plan_of (tasks.Run run (Some debug))) _ work e in
+    let given = answered nodes (run_of run (Some debug)) _ plan.value plan.first in
+    let is : run_plan run (Some debug) given.value ≡ plan.value = same_ok _ plan.value given.rest in
     let free = answered nodes (free_outputs plan.value.included (debug.log ∷ written)) _ work plan.rest in
-    let one = plays-plan nodes run debug plan.value plan.first in
     let last = (answered nodes (free_output plan.value.included debug.log) _ tt free.first).rest in (
       record {
-        job = one.job;
-        debugging = one.debugging;
-        debugs = ap Ok (sym (same_ok _ work free.rest) ∙ one.debugs);
-        plays = answer-more nodes (plan_of (tasks.Run run None)) _ _ one.plays
-            ∙ answer-more nodes (free_outputs plan.value.included written) _ tt last;
+        job = run_job run None given.value;
+        debugging = given_debugging given.value debug;
+        debugs = ap Ok (sym (same_ok _ work free.rest) ∙ ap (λ (p : Plan). p.work) (sym is));
+        plays = answer-more nodes (plan_of (tasks.Run run None)) _ (run_plan run None given.value)
+            (answer-more nodes (run_of run None) _ _ (plays-given nodes run debug given.value given.first))
+            ∙ answer-more nodes (free_outputs given.value.program.included written) _ tt
+            (subst (λ (p : Plan). answer_in nodes (free_outputs p.included written) ≡ Ok (tt {0})) (sym is) last);
       },
-      one.asked,
+      refl,
     )
 
 -- ---- what is done
@@ -500,9 +311,9 @@ module _ (files : Option Nodes) (before : World) (job : RunJob) (debugging : Deb
   same-outputs : HaveSameOutputs shown done
   same-outputs =
       let middle = changed_by (changed_by before first) (running files (unwatched job)) in
-      let log = quiet middle last (filling-quiet (log_texts (Some debugging) (trace_of files job))) in
+      let log = files-same-outputs middle last (filled-of-tree (log_texts (Some debugging) (trace_of files job))) in
       let run = outputs-after (changed_by before first) before (running files (unwatched job))
-      (quiet before first (creating-quiet (debugging.task.log ∷ []))) in
+      (files-same-outputs before first (made-of-tree (debugging.task.log ∷ []))) in
       (ap (λ w. w.out) parted ∙ log.0 ∙ run.0, ap (λ w. w.err) parted ∙ log.1 ∙ run.1)
 
   pub same-files : (path : List ℕ) → bytes_eq path debugging.task.log ≡ false → contents_at path shown.files ≡ contents_at path done.files
@@ -517,20 +328,6 @@ module _ (files : Option Nodes) (before : World) (job : RunJob) (debugging : Deb
   pub same-root : (root : Option (List ℕ)) → IfSome root (λ r. (path : List ℕ) → is_in r path ≡ true → bytes_eq path debugging.task.log ≡ false)
       → option_map (below root) shown.files ≡ option_map (below root) done.files
   same-root = grind (arith, common_steps, parts-same, same-files)
-
--- where the log lies outside the root
-log-outside : (run : RunTask) (debug : DebugTask) → first_clash (tasks.Run run (Some debug)) ≡ None
-    → IfSome run.root (λ r. (path : List ℕ) → is_in r path ≡ true → bytes_eq path debug.log ≡ false)
-log-outside run debug apart = go run.root refl
-  where
-    go : (root : Option (List ℕ)) → run.root ≡ root → IfSome root (λ r. (path : List ℕ) → is_in r path ≡ true → bytes_eq path debug.log ≡ false)
-    go None is = tt
-    go (Some root) is = λ path inside.
-        false_from_ne_true (bytes_eq path debug.log)
-        (λ among.
-        let out = outputs-outside (tasks.Run run (Some debug)) path apart (ap (λ b. b || list_any (bytes_eq path) (run_outputs run None)) among) in
-        let outside : is_in root path ≡ false = rw is at out in
-        true≢false (sym inside ∙ outside))
 
 -- all but the log is that of an outcome
 abbrev GivesButLog : RunTask → DebugTask → Outcome → World → World → ℕ → Type 0
@@ -559,7 +356,7 @@ pub shows_what_play_does : (nodes : Nodes) (words others : List (List ℕ)) (wor
     → ShowsWhatPlayDoes nodes words others items work
 shows_what_play_does nodes words others work items e =
     let found = asked-task nodes (request words) work e in
-    let both = ask-both words others found.0 items found.1 in
+    let both = requests-both words others items.run items.debug found.0 items.debugs items.plays found.1 in
     let one = plays-too nodes items.run items.debug work (ap (tree_verdict nodes) (sym both.debugs) ∙ e) in
     let plays = ap (tree_verdict nodes) both.plays ∙ one.0.plays in
     let run : ComeToOneRun (Ok work) (tree_verdict nodes (request others)) =
@@ -660,22 +457,10 @@ module _ (c : Call) (comes : ComesOut c) where
 -- ---- a refused source
 
 module _ (path : List ℕ) (other : Nodes) (refusal : Refusal) (refused : answer_in other (source_of path) ≡ Err refusal) where
-  run-alone : (run : RunTask) (debug : Option DebugTask) → run.rom ≡ false → run.file ≡ path
-      → answer_in other (plan_of (tasks.Run run debug)) ≡ Err refusal
-  unfolding run_plan_of run_of program_of
-  run-alone run debug source same =
-      let file : answer_in other (source_of run.file) ≡ Err refusal = ap (λ file. answer_in other (source_of file)) same ∙ refused in
-      answer-refused other (run_of run debug) _ refusal
-      (answer-refused other (program_of run.rom run.file) _ refusal (rw source (answer-refused other (source_of run.file) _ refusal file)))
-
   plan-alone : (task : Task) → first_source task ≡ Some path → answer_in other (plan_of task) ≡ Err refusal
-  unfolding files_of
-  plan-alone (tasks.Run run debug) first =
-      grind (arith, common_steps, run-alone)
-  plan-alone (tasks.Assemble task) first =
-      let same : task.file ≡ path = cc in
-      answer-refused other (files_of task) _ refusal
-      (answer-refused other (source_of task.file) _ refusal (ap (λ file. answer_in other (source_of file)) same ∙ refused))
+  unfolding run_plan_of
+  plan-alone (tasks.Run run debug) first = answer-refused other (run_of run debug) _ refusal (run-refused path other refusal refused run debug first)
+  plan-alone (tasks.Assemble task) first = answer-refused other (files_of task) _ refusal (files-refused path other refusal refused task first)
   plan-alone (tasks.Disassemble task) first = absurd cc
   plan-alone (tasks.Generate count) first = absurd cc
   plan-alone (tasks.Line file) first = absurd cc

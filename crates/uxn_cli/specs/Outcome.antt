@@ -3,16 +3,16 @@ use Rattle.std.specs.Prelude.{◌≡◌, ℕ, true, List, [], ◌++◌, map, Opt
 use Rattle.std.specs.List.{list_any}
 use Rattle.std.specs.Str.{bytes_eq}
 use Rattle.file_ports.specs.RootPart.{below}
-use Rattle.varvara_bus.specs.Touching.{contents_at}
+use Rattle.uxn_io_traits.specs.AtPath.{contents_at}
 use Rattle.uxn_io_traits.specs.Files.{Nodes}
-use Rattle.uxn_io_traits.specs.Ended.{to_out, to_err}
+use Rattle.uxn_io_traits.specs.Ended.{to_out, to_err, creating_all}
 use Rattle.uxn_io_traits.specs.Outside.{Change, World, changed_by}
 use Rattle.uxn_task_files.specs.declared.refusal.Refusal.{Refusal}
 use Rattle.uxn_task_files.specs.Statuses.{status_of}
 use Rattle.uxn_task_files.specs.Lines.{refusal_line}
 use Rattle.vector_loop.specs.Trace.{Trace}
 use Rattle.play_script.specs.declared.script.Version.{Version}
-use Rattle.uxn_task_files.specs.Writing.{creating_all, filling_all, writing}
+use Rattle.uxn_task_files.specs.Writing.{filling_all, writing}
 use Rattle.uxn_cli.specs.RunJob.{RunJob, job_outputs, trace_of, report_of, log_texts}
 use Rattle.uxn_line.specs.Streams.{LineJob, run_of_machine, stream, exit_code_at}
 use Rattle.uxn_line.specs.Moves.{last_machine}

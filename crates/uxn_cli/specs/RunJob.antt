@@ -1,5 +1,5 @@
 -- What is run: a ROM with a script, as a task asks; and the commands of a debugger that watches it.
-use Rattle.std.specs.Prelude.{ℕ, Bool, unwrap_or, List, map, [], ◌++◌, codes, decimal, Option, Some, None, option_map}
+use Rattle.std.specs.Prelude.{ℕ, Bool, unwrap_or, List, [], ◌++◌, codes, decimal, Option, Some, None, option_map}
 use Rattle.std.specs.FinMap as nodes_map
 use Rattle.uxn_io_traits.specs.Files.{Nodes}
 use Rattle.file_ports.specs.RootPart.{below, parent_is_folder}
@@ -14,10 +14,9 @@ use Rattle.vector_loop.specs.State.{State, new_tally}
 use Rattle.vector_loop.specs.Trace.{Trace}
 use Rattle.vector_loop.specs.declared.output.Outputs.{Outputs}
 use Rattle.vector_loop.specs.Run.{run}
-use Rattle.vector_loop.specs.Watch.{page_in, moment_of}
 use Rattle.tal_words.specs.declared.name.Label.{Label}
 use Rattle.debug_commands.specs.declared.command.DebugCommand.{DebugCommand}
-use Rattle.uxn_debugger.specs.Log.{Shown, log_of}
+use Rattle.uxn_debugger.specs.Log.{log_over}
 use Rattle.uxn_line.specs.Streams.{clock_by, exit_code_at}
 use Rattle.uxn_arguments.specs.Options.{run_outputs}
 use Rattle.uxn_arguments.specs.declared.task.DebugTask.{DebugTask}
@@ -109,13 +108,7 @@ report_text version exit tally = common_lines exit tally ++ further_lines versio
 abbrev pub report_of : Option (List ℕ) → Version → State → List Text
 report_of path version end = requested_output path (report_text version (exit_code_at end) end.tally)
 
--- what a debugger is shown of a state, and its log over a whole run
-abbrev pub state_shown : State → Shown
-state_shown state = record { core = state.core; page = page_in state; moment = moment_of state }
-
-unfoldable pub log_text : Debugging → Trace → List ℕ
-log_text debugging trace = log_of debugging.labels (map state_shown trace.moments) (state_shown trace.last) debugging.commands
-
+-- the log of a debugger over a whole run
 abbrev pub log_texts : Option Debugging → Trace → List Text
 log_texts None trace = []
-log_texts (Some debugging) trace = requested_output (Some debugging.task.log) (log_text debugging trace)
+log_texts (Some debugging) trace = requested_output (Some debugging.task.log) (log_over debugging.labels debugging.commands trace)

@@ -1,10 +1,9 @@
 -- What follows of a call that ends early.
-use Rattle.std.specs.Prelude.{◌≡◌, ℕ, ◌⊎◌, List, ◌++◌, Option, Some, Result}
+use Rattle.std.specs.Prelude.{◌≡◌, ℕ, ◌⊎◌, List, Option, Result}
 use Rattle.uxn_io_traits.specs.Faults.{Counts, Rose}
-use Rattle.uxn_io_traits.specs.Files.{Node, File}
 use Rattle.uxn_io_traits.specs.Outside.{World, changed_by}
-use Rattle.uxn_io_traits.specs.Known.{extended}
-use Rattle.varvara_bus.specs.Touching.{contents_at}
+use Rattle.uxn_io_traits.specs.Known.{IsPrefixOf}
+use Rattle.uxn_io_traits.specs.AtPath.{contents_at, HoldsFilePrefix}
 use Rattle.uxn_task_files.specs.declared.refusal.Refusal.{Refusal}
 use Rattle.uxn_task_files.specs.Statuses.{IsEarly}
 use Rattle.uxn_cli.specs.Call.{Call, OfVerdict}
@@ -16,20 +15,10 @@ pub record RaisesACount (before now : Counts) (status : ℕ) : Type 0 where
   pub tree : status ≡ 136 → Rose before.tree.faults now.tree.faults
   pub sinks : status ≡ 137 → Rose before.out.faults now.out.faults ⊎ Rose before.err.faults now.err.faults
 
--- one text is known to be a prefix of another
-pub record IsPrefixOf (prefix whole : Option (List ℕ)) : Type 0 where
-  pub rest : List ℕ
-  pub is : whole ≡ extended prefix rest
-
 -- an output holds what it held, and then a prefix of what it is to get
 pub record HoldsPrefix (before now whole : Option (List ℕ)) : Type 0 where
   pub kept : IsPrefixOf before now
   pub prefix : IsPrefixOf now whole
-
--- at a path stands what stood there, or a file with a prefix of what it is to hold
-abbrev pub HoldsFilePrefix : Option (Option Node) → Option (Option Node) → Option (Option Node) → Type 0
-HoldsFilePrefix before now whole = (now ≡ before)
-    ⊎ ((bytes : List ℕ) × (rest : List ℕ) × (now ≡ Some (Some (File bytes))) × (whole ≡ Some (Some (File (bytes ++ rest)))))
 
 -- each output has a prefix of what the outcome gives it; so has each file that is written, its pictures and its samples too, or it is as
 -- it was

@@ -2,7 +2,6 @@
 use Rattle.std.specs.Prelude.{ℕ, List, [], codes, if◌then◌else◌, Option, option_map, unwrap_or, Result, Ok, Err}
 use Rattle.std.specs.List.{list_all}
 use Rattle.uxn_limits.specs.declared.limits.TheConstants.{USUAL_BUDGET}
-use Rattle.play_script.specs.Scripts.{script_of}
 use Rattle.tal_rom.specs.Assembly.{rom_of}
 use Rattle.tal_assembly.specs.Sources.{own_answer}
 use Rattle.uxn_inquiry.specs.Inquiry.{Inquiry, Answer, and_then, result_as}
@@ -34,7 +33,7 @@ run_job run debug given =
 abbrev pub accepted_summary : ℕ → Result (List ℕ) Refusal
 accepted_summary count =
     then_steps (result_as Faulty (own_answer (workload_source count))) (λ source.
-    then_steps (validated_script (script_of (codes "frame 60"))) (λ script.
+    then_steps (validated_script (codes "frame 60")) (λ script.
     Ok (workload_text source.text (rom_of source.text) script)))
 
 -- what is to be done: a ROM is run, files are written, a text is printed, or machines in a line are run

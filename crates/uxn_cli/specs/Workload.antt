@@ -4,7 +4,8 @@ use Rattle.uxn_limits.specs.declared.limits.TheConstants.{USUAL_BUDGET}
 use Rattle.uxn_opcodes.specs.declared.Core.{Core}
 use Rattle.play_script.specs.Scripts.{ScriptView}
 use Rattle.vector_loop.specs.Trace.{Trace}
-use Rattle.uxn_line.specs.Places.{no_outputs, put_by}
+use Rattle.uxn_io_traits.specs.Outside.{put_by}
+use Rattle.uxn_line.specs.Places.{no_outputs}
 use Rattle.uxn_line.specs.Streams.{run_of}
 use Rattle.uxn_workload.specs.Summary.{Summary, summary_text}
 use Rattle.uxn_cli.specs.RunJob.{no_root_view, reference_trace, run_end}

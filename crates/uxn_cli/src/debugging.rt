@@ -17,8 +17,7 @@ use uxn_arguments::{DebugTask, RunTask};
 use uxn_debugger::{Debugger, the_log_is_that_of_the_run};
 use uxn_io_traits::{Sink, Tree};
 use uxn_opcodes::Stop;
-use uxn_undo::{Undo, the_moments_of_a_run_are_in_a_row};
-use vector_loop::the_moments_of_a_run_are_counted;
+use uxn_undo::Undo;
 
 /// What a debugger does with a run.
 #[derive(Drop)]
@@ -53,8 +52,6 @@ pub fn debug_made<T: Tree, O: Sink, E: Sink>(
     ensures same { SameHost host.old host.new }
 {
     the_log_is_that_of_the_run();
-    the_moments_of_a_run_are_counted();
-    the_moments_of_a_run_are_in_a_row();
     core_known(&machine.core);
     let end = run_made(task, machine, host, debugger)?;
     write_text(&Some(debug.log), debugger.log(), host.tree)

@@ -16,7 +16,7 @@ ghost use Rattle.uxn_cli.specs.Verdict.{inquiry_of};
 ghost use Rattle.uxn_cli.specs.Observation.{OnlyWatches, HaveSameItems, ShowsWhatPlayDoes};
 
 /// 136 comes only where the tree's count of faults rose in the call, and 137 only where a sink's did: by the clause `early`.
-#[tactic(auto, using(crate::proofs::Clauses::Works::tree_rose, crate::proofs::Clauses::Works::sink_rose))]
+#[tactic(auto, using(uxn_task_files::proofs::StatusLemmas::tree_rose, uxn_task_files::proofs::StatusLemmas::sink_rose))]
 pub fn a_fault_raises_a_count()
     ensures { (c : Call) → EndsEarlyByFaults c → RaisesACount c.before.faults c.now.faults c.status }
 {}

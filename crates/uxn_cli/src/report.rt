@@ -1,12 +1,11 @@
 //! The report of a run.
 ghost use Rattle.std.specs.Prelude.{◌≡◌, ◌+◌, ◌≤◌, ◌++◌, length};
 ghost use Rattle.arrayvec.specs.ArrayVec.{array_vec_len};
-ghost use Rattle.play_script.specs.declared.script.Version.{Version};
-ghost use Rattle.play_script.specs.Scripts.{version_number};
 ghost use Rattle.play_script.specs.declared.script.Version.TheVariants.{Second as second};
 ghost use Rattle.uxn_cli.specs.RunJob.{common_lines, further_lines, report_line, report_text};
 
 use arrayvec::ArrayVec;
+use play_script::Version;
 use uxn_io_traits::decimal;
 use vector_loop::Tally;
 
@@ -49,12 +48,13 @@ fn push_further(text: &mut ArrayVec<u8, 256>, tally: &Tally)
 }
 
 /// What is said of a run: seven lines, its exit code and what was counted, and two more for a script of version 2.
-pub fn report(version: u8, exit: u8, tally: &Tally) -> ArrayVec<u8, 256>
-    ensures { (number : Version) → version ≡ version_number number → result.items ≡ report_text number exit tally.now }
+pub fn report(version: Version, exit: u8, tally: &Tally) -> ArrayVec<u8, 256>
+    ensures { result.items ≡ report_text version exit tally.now }
 {
     let mut text = common_lines(exit, tally);
-    if version == 2 {
-        push_further(&mut text, tally);
+    match version {
+        Version::First => {}
+        Version::Second => push_further(&mut text, tally),
     }
     text
 }

@@ -17,12 +17,10 @@ use super::report::report;
 use system_port::exit_code;
 use uxn_arguments::RunTask;
 use uxn_io_traits::{Failed, Path, Sink, Tree, append_all};
+use uxn_limits::ports::SYSTEM_STATE;
 use uxn_opcodes::Stop;
 use varvara_bus::Bus;
 use vector_loop::{Outputs, Tally, Watcher, run_script};
-
-/// The port of the state.
-const STATE: u8 = 0x0f;
 
 /// How a run ended.
 #[derive(Clone, Copy)]
@@ -71,7 +69,7 @@ pub fn run_machine<T: Tree, O: Sink, E: Sink, W: Watcher>(
         watcher,
     )?;
     Ok(RunEnd {
-        exit: exit_code(bus.stored(STATE)),
+        exit: exit_code(bus.stored(SYSTEM_STATE)),
         tally,
     })
 }
@@ -120,7 +118,7 @@ pub fn run_made<T: Tree, O: Sink, E: Sink, W: Watcher>(
     ensures same { SameHost host.old host.new }
 {
     let mut machine = machine;
-    let version = machine.script.version();
+    let version = machine.script.version_kind();
     let end = run_machine(&mut machine, &settings_of(task), host, watcher)?;
     let text = report(version, end.exit, &end.tally);
     write_text(&task.report, &text, host.tree)

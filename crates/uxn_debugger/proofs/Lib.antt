@@ -3,6 +3,7 @@ pub mod Earlier
 pub mod Turns
 pub mod Forward
 pub mod LogLaw
+pub mod RunLog
 pub mod BitSets
 pub mod Tables
 pub mod Nearest

@@ -7,7 +7,9 @@ use Rattle.std.specs.List.{position_or_len}
 use Rattle.uxn_opcodes.specs.declared.Core.{Core}
 use Rattle.tal_words.specs.declared.name.Label.{Label}
 use Rattle.vector_loop.specs.declared.watch.Moment.{Moment}
-use Rattle.vector_loop.specs.Watch.{Page}
+use Rattle.vector_loop.specs.State.{State}
+use Rattle.vector_loop.specs.Trace.{Trace}
+use Rattle.vector_loop.specs.Watch.{Page, page_in, moment_of}
 use Rattle.uxn_undo.specs.Kept.{holding}
 use Rattle.uxn_undo.specs.Laws.{GivenMoments, kept_of}
 use Rattle.uxn_undo.specs.Runs.{InRow}
@@ -21,6 +23,10 @@ pub record Shown : Type 0 where
   pub core : Core
   pub page : Page
   pub moment : Moment
+
+-- what is shown at a state of a run
+abbrev pub state_shown : State → Shown
+state_shown state = record { core = state.core; page = page_in state; moment = moment_of state }
 
 -- a moment where the run stands, with what its ports read; one that the run has gone on from, with what was stored in them; and the end
 abbrev pub before : Shown → MomentView
@@ -124,3 +130,7 @@ module _ (labels : List Label) (moments : List Shown) (end : Shown) where
   -- the log of all commands
   unfoldable pub log_of : List DebugCommand → List ℕ
   log_of commands = (fold after_command first_stand commands).log
+
+-- the log over a whole run
+unfoldable pub log_over : List Label → List DebugCommand → Trace → List ℕ
+log_over labels commands trace = log_of labels (map state_shown trace.moments) (state_shown trace.last) commands

@@ -6,7 +6,13 @@ use Rattle.std.specs.List.{list_any}
 use Rattle.uxn_opcodes.specs.declared.Core.{Core}
 use Rattle.tal_words.specs.declared.name.Label.{Label}
 use Rattle.vector_loop.specs.declared.watch.Moment.{Moment}
-use Rattle.vector_loop.specs.Watch.{Page}
+use Rattle.vector_loop.specs.Trace.{Trace}
+use Rattle.vector_loop.specs.Run.{run}
+use Rattle.vector_loop.specs.State.{State}
+use Rattle.vector_loop.specs.Watch.{Page, page_in, moment_of, shown_all}
+use Rattle.vector_loop.specs.declared.output.Outputs.{Outputs}
+use Rattle.play_script.specs.Scripts.{ScriptView}
+use Rattle.uxn_undo.specs.Row.{IsMachine}
 use Rattle.uxn_undo.specs.Kept.{Kept, kept_at, holding, byte_back}
 use Rattle.debug_commands.specs.declared.command.DebugCommand.{DebugCommand}
 use Rattle.debug_commands.specs.declared.command.DebugCommand.TheVariants.{Run, Step, Back}
@@ -17,7 +23,7 @@ use Rattle.uxn_debugger.specs.declared.place.Goal.{Goal}
 use Rattle.uxn_debugger.specs.declared.place.Goal.TheVariants.{FirstMoment, MomentAfter, BreakAddress, Nothing}
 use Rattle.uxn_debugger.specs.Printing.{MomentView, moment_at, place_observed, printed}
 use Rattle.uxn_debugger.specs.Bits.{addresses_in}
-use Rattle.uxn_debugger.specs.Log.{AddressSet, no_breaks, breaks_after, Shown, before, at_end, IsRegular, log_of}
+use Rattle.uxn_debugger.specs.Log.{AddressSet, no_breaks, breaks_after, Shown, before, at_end, IsRegular, log_of, log_over}
 
 -- the commands that are left, the labels, what it waits for, the break addresses, the log so far, whether moments are kept, and those
 -- that are held, the newest first
@@ -195,3 +201,13 @@ KeptNone before now = (now.undo ≡ before.undo) × (now.labels ≡ before.label
 abbrev pub KeepsTheLog : Type 0
 KeepsTheLog = (commands : List DebugCommand) (labels : List Label) (moments : List Shown) (end : Shown) → IsRegular moments end
     → (ended (fold shown (new_watching commands labels) moments) end).log ≡ log_of labels moments end commands
+
+-- what it holds once it was shown a whole run
+abbrev pub after_run : Watching → Trace → Watching
+after_run held trace = after_end (shown_all after_moment held trace.moments) trace.last.core (page_in trace.last) (moment_of trace.last)
+
+-- the same for the run of a script, from a machine that has counted no instruction
+abbrev pub KeepsTheLogOfRuns : Type 0
+KeepsTheLogOfRuns = (commands : List DebugCommand) (labels : List Label) (budget : ℕ) (outputs : Outputs) (script : ScriptView) (state : State)
+    → IsMachine state.core → state.tally.instructions ≡ 0
+    → (after_run (new_watching commands labels) (run budget outputs script state)).log ≡ log_over labels commands (run budget outputs script state)

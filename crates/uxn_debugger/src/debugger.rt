@@ -6,6 +6,7 @@ ghost use Rattle.vector_loop.specs.Watch.{Page, IsPage};
 ghost use Rattle.uxn_debugger.specs.Printing.{view};
 ghost use Rattle.uxn_debugger.specs.Watching.{
   KeepsTheLog,
+  KeepsTheLogOfRuns,
   KeptNone,
   arrived,
   back_after,
@@ -37,7 +38,7 @@ use uxn_undo::{
     Undo, going_back_gives_the_moment, the_moments_of_a_run_are_in_a_row,
     the_newest_moments_are_held,
 };
-use vector_loop::{Moment, Watcher};
+use vector_loop::{Moment, Watcher, the_moments_of_a_run_are_counted};
 
 /// Watches a run: it does commands, one after the other, and keeps what they print. It changes nothing of the run.
 #[derive(Drop)]
@@ -341,11 +342,14 @@ impl<'a> Watcher for Debugger<'a> {
     }
 }
 
-/// A debugger that is shown the moments of a run in order, and then its end, keeps the log of its commands over the run.
+/// A debugger that is shown the moments of a run in order, and then its end, keeps the log of its commands over the run. So
+/// it does over the run of a script.
 pub fn the_log_is_that_of_the_run()
-    ensures { KeepsTheLog }
+    ensures moments { KeepsTheLog }
+    ensures runs { KeepsTheLogOfRuns }
 {
     the_newest_moments_are_held();
     going_back_gives_the_moment();
     the_moments_of_a_run_are_in_a_row();
+    the_moments_of_a_run_are_counted();
 }

@@ -7,7 +7,8 @@ use Rattle.std.proofs.lemmas.List.{append-nil, map-append}
 use Rattle.uxn_io_traits.specs.Files.{File, Nodes, file_bytes_at}
 use Rattle.uxn_io_traits.specs.Changes.{with_appended}
 use Rattle.uxn_io_traits.specs.Outside.{ToFile, World, changed, changed_by}
-use Rattle.uxn_io_traits.specs.Ended.{contents_after, appending, AreOfTree}
+use Rattle.uxn_io_traits.specs.EachLaws.{each-map}
+use Rattle.uxn_io_traits.specs.Ended.{contents_after, appending, IsOfTree, AreOfTree}
 use Rattle.uxn_io_traits.specs.NodeLaws.{bytes_put, put_again}
 
 -- to append twice is to append both
@@ -50,5 +51,4 @@ pub appending-both : (path first more : List ℕ) → appending path (first ++ m
 appending-both path first more = map-append (λ byte. ToFile path byte) first more
 
 pub appending-of-tree : (path piece : List ℕ) → AreOfTree (appending path piece)
-appending-of-tree path [] = tt
-appending-of-tree path (byte ∷ piece) = (tt, appending-of-tree path piece)
+appending-of-tree path piece = each-map IsOfTree (λ byte. ToFile path byte) piece (λ byte. tt)

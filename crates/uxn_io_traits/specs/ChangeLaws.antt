@@ -1,11 +1,13 @@
--- Laws of changes, one after the other, and of those that were truncated.
-use Rattle.std.specs.Prelude.{◌≡◌, ℕ, List, [], ◌∷◌, ◌++◌, take, drop, map, Option, Some, None, refl}
+-- Laws of changes, one after the other, of what they put on the outputs, and of those that were truncated.
+use Rattle.std.specs.Prelude.{◌≡◌, ◌≢◌, ◌<◌, ℕ, List, [], ◌∷◌, ◌++◌, length, take, drop, map, Option, Some, None, refl}
 use Rattle.std.specs.Option.{option_map}
-use Rattle.std.proofs.Common.{ap, sym, ◌∙◌, append_assoc}
-use Rattle.std.proofs.lemmas.List.{append-nil, take-append-drop, map-append}
+use Rattle.std.proofs.Common.{ap, sym, ◌∙◌, append_assoc, arith, length-drop}
+use Rattle.std.proofs.lemmas.Grind.{common_steps}
+use Rattle.std.proofs.lemmas.List.{append-nil, take-append-drop, map-append, length-map}
 use Rattle.uxn_io_traits.specs.Files.{Nodes}
-use Rattle.uxn_io_traits.specs.Known.{extended, HasTakenPrefix}
+use Rattle.uxn_io_traits.specs.Known.{extended, IsPrefixOf}
 use Rattle.uxn_io_traits.specs.Outside.{Change, ToOut, ToErr, Creates, ToFile, Removes, World, changed_files, files_by, changed, changed_by, IsCutOff}
+use Rattle.uxn_io_traits.specs.Outside.{put_by_one, put_by}
 
 -- changes after changes
 pub changed_by-append : (world : World) (first more : List Change)
@@ -73,6 +75,47 @@ changed_by-out world (byte ∷ text) =
     changed_by-out (changed world (ToOut byte)) text
     ∙ ap (λ contents. record world { out = contents }) (extended-extended world.out (byte ∷ []) text)
 
+-- what changes put on the standard output
+pub put_by-append : (first more : List Change) → put_by (first ++ more) ≡ put_by first ++ put_by more
+put_by-append [] more = refl
+put_by-append (change ∷ first) more =
+    ap (λ bytes. put_by_one change ++ bytes) (put_by-append first more) ∙ sym (append_assoc (put_by_one change) (put_by first) (put_by more))
+
+pub changed_by-puts : (world : World) (changes : List Change) → (changed_by world changes).out ≡ extended world.out (put_by changes)
+changed_by-puts world [] = sym (extended-nothing world.out)
+changed_by-puts world (ToOut byte ∷ changes) =
+    changed_by-puts (changed world (ToOut byte)) changes ∙ extended-extended world.out (byte ∷ []) (put_by changes)
+changed_by-puts world (ToErr byte ∷ changes) = changed_by-puts (changed world (ToErr byte)) changes
+changed_by-puts world (Creates path ∷ changes) = changed_by-puts (changed world (Creates path)) changes
+changed_by-puts world (ToFile path byte ∷ changes) = changed_by-puts (changed world (ToFile path byte)) changes
+changed_by-puts world (Removes path ∷ changes) = changed_by-puts (changed world (Removes path)) changes
+
+prefix-without-last : (contents : Option (List ℕ)) (byte : ℕ) (whole : Option (List ℕ)) → IsPrefixOf (extended contents (byte ∷ [])) whole
+    → IsPrefixOf contents whole
+prefix-without-last contents byte whole prefix =
+    record { rest = byte ∷ prefix.rest; is = prefix.is ∙ extended-extended contents (byte ∷ []) prefix.rest }
+
+-- so changes add to the outputs
+pub changed_by-adds : (world : World) (changes : List Change)
+    → IsPrefixOf world.out (changed_by world changes).out × IsPrefixOf world.err (changed_by world changes).err
+changed_by-adds world changes = (record { rest = put_by changes; is = changed_by-puts world changes }, errs world changes)
+  where
+    errs : (world : World) (changes : List Change) → IsPrefixOf world.err (changed_by world changes).err
+    errs world [] = record { rest = []; is = sym (extended-nothing world.err) }
+    errs world (ToOut byte ∷ changes) = errs (changed world (ToOut byte)) changes
+    errs world (ToErr byte ∷ changes) = prefix-without-last world.err byte _ (errs (changed world (ToErr byte)) changes)
+    errs world (Creates path ∷ changes) = errs (changed world (Creates path)) changes
+    errs world (ToFile path byte ∷ changes) = errs (changed world (ToFile path byte)) changes
+    errs world (Removes path ∷ changes) = errs (changed world (Removes path)) changes
+
+-- worlds with the same outputs have the same after the same changes
+abbrev pub HaveSameOutputs : World → World → Type 0
+HaveSameOutputs a b = (a.out ≡ b.out) × (a.err ≡ b.err)
+
+pub outputs-after : (a b : World) (changes : List Change) → HaveSameOutputs a b → HaveSameOutputs (changed_by a changes) (changed_by b changes)
+outputs-after a b [] e = e
+outputs-after a b (change ∷ changes) e = outputs-after (changed a change) (changed b change) changes (grind (arith, common_steps))
+
 -- what was truncated in a part is truncated in what begins with that part
 pub cut-first : (before now : World) (first more : List Change) → IsCutOff before now first → IsCutOff before now (first ++ more)
 cut-first before now first more cut = record {
@@ -92,28 +135,17 @@ cut-later before middle now first more done cut = record {
   left = cut.left ∙ ap (λ world. changed_by world cut.made) done ∙ sym (changed_by-append before first cut.made);
 }
 
--- where all was made so far nothing of what is to come need be
-pub cut-here : (before now : World) (first more : List Change) → now ≡ changed_by before first → IsCutOff before now (first ++ more)
-cut-here before now first more done = record { made = first; rest = more; parts = refl; left = done }
-
--- a prefix of a text was put on the error output
-pub cut-err : (world : World) (now : Option (List ℕ)) (text : List ℕ)
-    → HasTakenPrefix world.err now text → IsCutOff world (record world { err = now }) (map (λ byte. ToErr byte) text)
-cut-err world now text prefix = record {
-  made = map (λ byte. ToErr byte) (take prefix.count text);
-  rest = map (λ byte. ToErr byte) (drop prefix.count text);
-  parts = ap (λ bytes. map (λ byte. ToErr byte) bytes) (sym (take-append-drop prefix.count text))
-      ∙ map-append (λ byte. ToErr byte) (take prefix.count text) (drop prefix.count text);
-  left = ap (λ contents. record world { err = contents }) prefix.taken ∙ sym (changed_by-err world (take prefix.count text));
-}
-
--- a prefix of a text was put on the standard output
-pub cut-out : (world : World) (now : Option (List ℕ)) (text : List ℕ)
-    → HasTakenPrefix world.out now text → IsCutOff world (record world { out = now }) (map (λ byte. ToOut byte) text)
-cut-out world now text prefix = record {
-  made = map (λ byte. ToOut byte) (take prefix.count text);
-  rest = map (λ byte. ToOut byte) (drop prefix.count text);
-  parts = ap (λ bytes. map (λ byte. ToOut byte) bytes) (sym (take-append-drop prefix.count text))
-      ∙ map-append (λ byte. ToOut byte) (take prefix.count text) (drop prefix.count text);
-  left = ap (λ contents. record world { out = contents }) prefix.taken ∙ sym (changed_by-out world (take prefix.count text));
-}
+-- a prefix of a text was put on an output, and some of it is left
+pub cut-text : (f : ℕ → Change) (before now : World) (text : List ℕ) (count : ℕ) → count < length text
+    → now ≡ changed_by before (map f (take count text)) → (cut : IsCutOff before now (map f text)) × (cut.rest ≢ [])
+cut-text f before now text count less is = (
+  record {
+    made = map f (take count text);
+    rest = map f (drop count text);
+    parts = ap (map f) (sym (take-append-drop count text)) ∙ map-append f (take count text) (drop count text);
+    left = is;
+  },
+  λ none.
+      let gone : map f (drop count text) ≡ [] = none in
+      absurd (omega (arith, less, length-drop count text, length-map (drop count text) f, ap length gone)),
+)

@@ -3,6 +3,7 @@ use Rattle.std.specs.Prelude.{◌≡◌, ℕ, ◌+◌, ◌<◌, ◌≤◌, Bool,
 use Rattle.std.specs.Prelude.{List, [], ◌∷◌, ◌++◌, ◌⊎◌, length, take, map}
 use Rattle.std.specs.Prelude.{Option, Some, None, Result, Ok, Err, is_some, if◌then◌else◌}
 use Rattle.std.specs.Option.{option_map}
+use Rattle.std.specs.List.{AllByRecursion}
 use Rattle.uxn_io_traits.specs.declared.refused.RefusedFiles.{RefusedFiles}
 use Rattle.uxn_io_traits.specs.declared.sinks.Failed.{Failed}
 use Rattle.uxn_io_traits.specs.Files.{Nodes, file_at}
@@ -88,6 +89,10 @@ removing None path = []
 abbrev pub appending : List ℕ → List ℕ → List Change
 appending path piece = map (λ byte. ToFile path byte) piece
 
+-- files made, empty and in order
+abbrev pub creating_all : List (List ℕ) → List Change
+creating_all paths = map (λ path. Creates path) paths
+
 -- the part of a piece that a call was to take: what it answers, or, where it failed, all
 abbrev pub portion : Result ℕ Failed → List ℕ → List ℕ
 portion (Ok count) piece = take count piece
@@ -142,8 +147,7 @@ IsOfTree (ToFile path byte) = Unit {0}
 IsOfTree (Removes path) = Unit {0}
 
 abbrev pub AreOfTree : List Change → Type 0
-AreOfTree [] = Unit {0}
-AreOfTree (change ∷ changes) = IsOfTree change × AreOfTree changes
+AreOfTree = AllByRecursion IsOfTree
 
 -- who is to blame for a tree that failed
 abbrev pub blame_of_tree : Bool → Option Blame

@@ -1,18 +1,19 @@
 -- Laws of how calls ended: one after the other, and those of a tree or a sink beside the other two.
-use Rattle.std.specs.Prelude.{◌≡◌, ℕ, ◌+◌, ◌<◌, ◌≤◌, Bool, true, false, List, [], ◌∷◌, ◌++◌}
+use Rattle.std.specs.Prelude.{◌≡◌, ◌≢◌, ℕ, ◌+◌, ◌<◌, ◌≤◌, Bool, true, false, List, [], ◌∷◌, ◌++◌}
 use Rattle.std.specs.Prelude.{length, take, Option, Some, None, Result, Ok, Err, refl, IfSome}
 use Rattle.std.specs.Option.{option_map}
 use Rattle.std.proofs.Common.{inl, inr, ap, sym, subst, ◌∙◌, append_assoc, arith}
 use Rattle.std.proofs.lemmas.List.{length-append}
 use Rattle.std.proofs.Math.Seq.{take-append-add}
 use Rattle.std.proofs.lemmas.Bool.{true≢false, false≢true}
+use Rattle.uxn_io_traits.specs.EachLaws.{each-parts}
 use Rattle.uxn_io_traits.specs.Files.{Nodes}
 use Rattle.uxn_io_traits.specs.declared.sinks.Failed.{Failed}
 use Rattle.uxn_io_traits.specs.FaultLaws.{counted-same, counted-then, ledger-same, ledger-then}
 use Rattle.uxn_io_traits.specs.Outside.{Change, ToOut, ToErr, Creates, ToFile, Removes, World, changed, changed_files, changed_by, files_by}
-use Rattle.uxn_io_traits.specs.ChangeLaws.{changed_by-append, changed_by-out, changed_by-err, cut-first, cut-later, cut-out}
-use Rattle.uxn_io_traits.specs.ChangeLaws.{cut-err, files-contents, extended-nothing, extended-extended}
-use Rattle.uxn_io_traits.specs.Faults.{Blame, Nobody}
+use Rattle.uxn_io_traits.specs.ChangeLaws.{changed_by-append, changed_by-out, changed_by-err, cut-first, cut-later, cut-text}
+use Rattle.uxn_io_traits.specs.ChangeLaws.{files-contents, extended-nothing, extended-extended, HaveSameOutputs}
+use Rattle.uxn_io_traits.specs.Faults.{Blame, Nobody, ASink}
 use Rattle.uxn_io_traits.specs.Room.{Room}
 use Rattle.uxn_io_traits.specs.State.{TreeState, SinkState, Outside, outside}
 use Rattle.uxn_io_traits.specs.Taking.{TreeTakes, TreeLeft, Remains, WasNotGuaranteed, bytes_out, bytes_err, files_made, files_gone}
@@ -262,9 +263,8 @@ changed_by-files world (change ∷ changes) of =
     changed_by-files (changed world change) changes of.1
     ∙ ap (λ (w : World). record w { files = contents_after changes w.files }) (changed-files world change of.0)
 
-of-tree-prefix : (made rest : List Change) → AreOfTree (made ++ rest) → AreOfTree made
-of-tree-prefix [] rest of = tt
-of-tree-prefix (change ∷ made) rest of = (of.0, of-tree-prefix made rest of.1)
+pub files-same-outputs : (world : World) (changes : List Change) → AreOfTree changes → HaveSameOutputs (changed_by world changes) world
+files-same-outputs world changes of = let is = changed_by-files world changes of in (ap (λ w. w.out) is, ap (λ w. w.err) is)
 
 -- a tree beside two sinks
 pub outside-of-tree : (changes : List Change) (failed : Bool) (before now : TreeState) (out err : SinkState) → AreOfTree changes
@@ -286,7 +286,7 @@ outside-of-tree changes true before now out err of p = record {
     rest = p.stands.rest;
     parts = p.stands.parts;
     left = ap (λ contents. record { out = out.contents; err = err.contents; files = contents }) p.stands.contents
-        ∙ sym (changed_by-files _ p.stands.made (of-tree-prefix p.stands.made p.stands.rest (subst AreOfTree p.stands.parts of)));
+        ∙ sym (changed_by-files _ p.stands.made (each-parts IsOfTree p.stands.made p.stands.rest (subst AreOfTree p.stands.parts of)).0);
   };
   ledger = record { tree = p.counted; out = counted-same out.tally; err = counted-same err.tally };
   not_guaranteed = blamed before.contents (p.blamed refl);
@@ -297,7 +297,7 @@ outside-of-tree changes true before now out err of p = record {
     blamed None is = tt
     blamed (Some nodes) is = is
 
--- a sink beside a tree and the other sink
+-- how many bytes and files the bytes put on an output count as
 to_out-counts : (bytes : List ℕ) → (bytes_out (to_out bytes) ≡ length bytes) × (bytes_err (to_out bytes) ≡ 0)
 to_out-counts [] = (refl, refl)
 to_out-counts (byte ∷ bytes) = let rest = to_out-counts bytes in (omega (arith, rest.0), omega (arith, rest.1))
@@ -314,6 +314,38 @@ to_err-files : (nodes : Nodes) (bytes : List ℕ) → (files_made nodes (to_err 
 to_err-files nodes [] = (refl, refl)
 to_err-files nodes (byte ∷ bytes) = let rest = to_err-files nodes bytes in (omega (arith, rest.0), omega (arith, rest.1))
 
+-- a sink that failed, beside a tree and the other sink: some of its bytes are not put
+pub short-of-out : (bytes : List ℕ) (files : TreeState) (before now err : SinkState) → SinkEnded bytes true before now
+    → (short : CutShort (to_out bytes) ASink (outside files before err) (outside files now err)) × (short.cut.rest ≢ [])
+short-of-out bytes files before now err p =
+    let cut = cut-text (λ byte. ToOut byte) _ _ bytes p.holds.count p.holds.within
+    (ap (λ contents. record { out = contents; err = err.contents; files = files.contents }) p.holds.taken
+    ∙ sym (changed_by-out _ (take p.holds.count bytes))) in (
+      record {
+        cut = cut.0;
+        ledger = inl (record { tree = counted-same files.tally; out = p.counted; err = counted-same err.tally });
+        not_guaranteed = λ out _. p.blamed refl
+            (let some = p.holds.within in omega (arith, (to_out-counts bytes).0, out (omega (arith, some, (to_out-counts bytes).0))));
+      },
+      cut.1,
+    )
+
+pub short-of-err : (bytes : List ℕ) (files : TreeState) (out before now : SinkState) → SinkEnded bytes true before now
+    → (short : CutShort (to_err bytes) ASink (outside files out before) (outside files out now)) × (short.cut.rest ≢ [])
+short-of-err bytes files out before now p =
+    let cut = cut-text (λ byte. ToErr byte) _ _ bytes p.holds.count p.holds.within
+    (ap (λ contents. record { out = out.contents; err = contents; files = files.contents }) p.holds.taken
+    ∙ sym (changed_by-err _ (take p.holds.count bytes))) in (
+      record {
+        cut = cut.0;
+        ledger = inr (record { tree = counted-same files.tally; out = counted-same out.tally; err = p.counted });
+        not_guaranteed = λ _ err. p.blamed refl
+            (let some = p.holds.within in omega (arith, (to_err-counts bytes).1, err (omega (arith, some, (to_err-counts bytes).1))));
+      },
+      cut.1,
+    )
+
+-- a sink beside a tree and the other sink
 pub outside-of-out : (bytes : List ℕ) (failed : Bool) (files : TreeState) (before now err : SinkState)
     → SinkEnded bytes failed before now → Ended (to_out bytes) (blame_of_sink failed) (outside files before err) (outside files now err)
 outside-of-out bytes false files before now err p = record {
@@ -331,12 +363,7 @@ outside-of-out bytes false files before now err p = record {
         → TreeLeft files.guaranteed files.guaranteed nodes (to_out bytes))
     same None = tt
     same (Some nodes) = λ _. let none = to_out-files nodes bytes in record { files = omega (arith, none.0, none.1); bytes = omega arith }
-outside-of-out bytes true files before now err p = record {
-  cut = cut-out _ now.contents bytes p.holds;
-  ledger = inl (record { tree = counted-same files.tally; out = p.counted; err = counted-same err.tally });
-  not_guaranteed = λ out _. p.blamed refl
-      (let some = p.holds.within in omega (arith, (to_out-counts bytes).0, out (omega (arith, some, (to_out-counts bytes).0))));
-}
+outside-of-out bytes true files before now err p = (short-of-out bytes files before now err p).0
 
 pub outside-of-err : (bytes : List ℕ) (failed : Bool) (files : TreeState) (out before now : SinkState)
     → SinkEnded bytes failed before now → Ended (to_err bytes) (blame_of_sink failed) (outside files out before) (outside files out now)
@@ -355,9 +382,4 @@ outside-of-err bytes false files out before now p = record {
         → TreeLeft files.guaranteed files.guaranteed nodes (to_err bytes))
     same None = tt
     same (Some nodes) = λ _. let none = to_err-files nodes bytes in record { files = omega (arith, none.0, none.1); bytes = omega arith }
-outside-of-err bytes true files out before now p = record {
-  cut = cut-err _ now.contents bytes p.holds;
-  ledger = inr (record { tree = counted-same files.tally; out = counted-same out.tally; err = p.counted });
-  not_guaranteed = λ _ err. p.blamed refl
-      (let some = p.holds.within in omega (arith, (to_err-counts bytes).1, err (omega (arith, some, (to_err-counts bytes).1))));
-}
+outside-of-err bytes true files out before now p = (short-of-err bytes files out before now p).0

@@ -1,3 +1,4 @@
+pub mod EachLaws
 pub mod Faults
 pub mod FaultLaws
 pub mod Known
@@ -15,6 +16,9 @@ pub mod PathLaws
 pub mod NodeLaws
 pub mod KindLaws
 pub mod ChangeLaws
+pub mod AtPath
+pub mod AtPathLaws
+pub mod PrefixLaws
 pub mod AppendingLaws
 pub mod Taking
 pub mod Requests

@@ -45,6 +45,15 @@ abbrev pub changed_by : World → List Change → World
 changed_by world [] = world
 changed_by world (change ∷ changes) = changed_by (changed world change) changes
 
+-- the bytes that changes add to the standard output
+abbrev pub put_by_one : Change → List ℕ
+put_by_one (ToOut byte) = byte ∷ []
+put_by_one _ = []
+
+abbrev pub put_by : List Change → List ℕ
+put_by [] = []
+put_by (change ∷ changes) = put_by_one change ++ put_by changes
+
 -- of these changes a prefix was made, in order, and the rest was not
 pub record IsCutOff (before now : World) (changes : List Change) : Type 0 where
   pub made : List Change

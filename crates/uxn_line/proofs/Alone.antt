@@ -21,10 +21,6 @@ pub stands-alone : (bus : Bus NoTree NoSink NoSink) (held : Devices) (state : De
     → BusRepresents (contents_on nothing.tree) bus state
 stands-alone bus held state same rests = record { devices = rw same rests.devices; files = rests.alone }
 
-pub rests-still : (bus : Bus NoTree NoSink NoSink) (held : Devices) (state : DeviceState) → held ≡ bus.devices.now
-    → BusRepresents (contents_on nothing.tree) bus state → Rests held state
-rests-still bus held state same stands = record { devices = rw same stands.devices; alone = stands.files }
-
 -- over nothing outside, and without a root, no instruction stops
 stops-never : (core core_new : Core) (before now : Bus NoTree NoSink NoSink) (stop : Stop) → before.devices.now.root ≡ None
     → Instruction (bus_rules nothing) core before (Err stop) core_new now
@@ -41,6 +37,6 @@ pub instruction-alone : (core core_new : Core) (before now : Bus NoTree NoSink N
     → (state : DeviceState) → Rests held state → MachineHasDone core_new final (instruction_effect state core)
 instruction-alone core core_new before now (Ok turn) held final same last ran ledger state rests =
     let done = instruction-done nothing core core_new before now turn state (stands-alone before held state same rests) ran in
-    record { core = done.core; devices = rests-still now final _ last done.devices }
+    record { core = done.core; devices = record { devices = rw last done.devices.devices; alone = done.devices.files } }
 instruction-alone core core_new before now (Err stop) held final same last ran ledger state rests =
     absurd (stops-never core core_new before now stop (rw same (rests.devices.root ∙ rests.alone.0)) ran ledger)

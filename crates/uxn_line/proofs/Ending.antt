@@ -3,12 +3,11 @@ use Rattle.uxn_line.proofs.Common.{common_steps, ◌*◌, turned_by, is_move, Ca
 use Rattle.uxn_line.proofs.Common.{ring_before, LineFinishes, WorksOn, slice_get-some, is_err, sink-then, Moved, handed_on, ◌≡◌, ℕ, suc, ◌+◌, ◌-◌}
 use Rattle.uxn_line.proofs.Common.{◌<◌, Bool, true, false, List, [], ◌∷◌, ◌++◌, sym, ap, subst, ◌∙◌, arith, append_assoc, length, Result, Ok}
 use Rattle.uxn_line.proofs.Common.{Err, SinkEnded, sink-as-it-was, SinkState, Line, PlaceHasEnded, put_in, LineJob, stream, Turned, machine_place}
-use Rattle.uxn_line.proofs.Common.{IsStill, LineRepresents, LineStops, last_machine, written_in, IsWaiting, MachineIsHeld, WritesLast, IsUnderWay, LineReaches, work_left}
-use Rattle.uxn_line.proofs.Common.{zero, exit_code_at}
+use Rattle.uxn_line.proofs.Common.{IsStill, LineRepresents, LineStops, last_machine, written_in, IsWaiting, MachineIsHeld, WritesLast, IsUnderWay}
+use Rattle.uxn_line.proofs.Common.{zero, exit_code_at, append-nil, LineReaches, work_left}
 use Rattle.uxn_io_traits.specs.declared.sinks.Failed.{Failed}
 use Rattle.uxn_line.proofs.MachineTurns.{run-put}
 use Rattle.uxn_line.proofs.Turning.{follows, ended-whole}
-use Rattle.uxn_line.proofs.Running.{leads-nowhere}
 
 pub move-still : (line : Line) (machine : ℕ) (moved : Moved) → is_move moved ≡ false
     → ((job : LineJob) (turned : Turned) → LineRepresents job line turned → Cause job line turned machine moved) → IsStill line machine
@@ -34,7 +33,10 @@ goes-on-with job line turned machine byte stands writes =
 
 -- some turns, and then others
 pub reach-none : (line : Line) (out : SinkState) → LineReaches line line out out
-reach-none line out = (λ turned. turned, record { bytes = []; put = sink-as-it-was out; leads = leads-nowhere line })
+reach-none line out = (
+  λ turned. turned,
+  record { bytes = []; put = sink-as-it-was out; leads = λ job turned stands. (stands, sym (append-nil (written_in job turned))) },
+)
 
 pub reach-then : (a b c : Line) (o p q : SinkState) → LineReaches a b o p → LineReaches b c p q → LineReaches a c o q
 reach-then a b c o p q first last = (

@@ -2,11 +2,10 @@
 use Rattle.uxn_line.proofs.Common.{common_steps, handed_on, Some, ◌++◌, ◌≡◌, ℕ, ◌==◌, ◌-◌, ◌<◌, Bool, true, false, cond, refl, ap, sym, ◌∙◌, Core}
 use Rattle.uxn_line.proofs.Common.{opcode_at, Devices, instruction_effect, PendingInput, State, counted_input, Place, Machine, turn, put_in}
 use Rattle.uxn_line.proofs.Common.{MachineHasDone, MachineRepresents, List, ◌∷◌, arith, Option, is_some, is_over, Trace, ConsoleByte, console_byte_of}
-use Rattle.uxn_line.proofs.Common.{holding, IsForConsole, put_by}
+use Rattle.uxn_line.proofs.Common.{holding, IsForConsole, put_by, put_by-append}
 use Rattle.vector_loop.specs.Vector.{instruction}
 use Rattle.vector_loop.specs.Places.{cut_at, instruction_step, vector_begins, step}
 use Rattle.uxn_line.proofs.Handing.{rests-put}
-use Rattle.uxn_line.proofs.Turning.{put_by-append}
 
 -- a machine in a vector runs an instruction
 pub run-turn : (budget : ℕ) (machine : Machine) (now : Place) → 0 < machine.left → MachineRepresents machine now

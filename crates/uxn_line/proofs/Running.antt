@@ -1,9 +1,9 @@
 -- What comes of a turn of a line, and of one in which a machine runs an instruction.
 use Rattle.uxn_line.proofs.Common.{common_steps, slice_get-some, Moved, handed_on, Cause, Fails, HasTurned, is_move, HasRun, put_from, HandedOn}
 use Rattle.uxn_line.proofs.Common.{KeptBack, WasNotPut, ◌≡◌, ◌≢◌, ℕ, zero, suc, ◌<◌, ◌≤◌, true, false, List, [], ◌++◌, length, get_or, refl, sym, ap}
-use Rattle.uxn_line.proofs.Common.{◌∙◌, arith, append-nil, Some, slice_get, get_or_from_slice_get, slice_get_read, slice_get_within, sink-as-it-was}
+use Rattle.uxn_line.proofs.Common.{◌∙◌, arith, Some, slice_get, get_or_from_slice_get, slice_get_read, slice_get_within, sink-as-it-was}
 use Rattle.uxn_line.proofs.Common.{SinkState, Line, Ran, Held, Member, put_in, LineJob, member_has_ended, Turned, one_more, machine_place, RingBefore}
-use Rattle.uxn_line.proofs.Common.{LineRepresents, written_in, MachineIsHeld, Leads, Came, work, work_left}
+use Rattle.uxn_line.proofs.Common.{LineRepresents, written_in, MachineIsHeld, Came, work, work_left}
 use Rattle.std.specs.Vec.{with_item}
 use Rattle.uxn_line.proofs.Handed.{handed-other}
 use Rattle.uxn_line.proofs.MachineTurns.{run-pending_inputs}
@@ -19,10 +19,6 @@ found-is items place found item read there = read ∙ get_or_from_slice_get item
 wrote-more : (job : LineJob) (line : Line) (turned : Turned) (machine : ℕ) (bytes : List ℕ) → LineRepresents job line turned
     → Writes job turned machine bytes → written_in job (one_more machine turned) ≡ written_in job turned ++ put_from line machine bytes
 wrote-more = grind (arith, common_steps)
-
--- a line that is as it was
-pub leads-nowhere : (line : Line) → Leads (λ turned. turned) [] line line
-leads-nowhere line = λ job turned stands. (stands, sym (append-nil (written_in job turned)))
 
 -- a line with another member at a place
 abbrev pub with_member : Line → ℕ → Member → Line

@@ -1,14 +1,8 @@
 -- The turns of a machine, taken one after the other, are its run.
-use Rattle.uxn_line.proofs.Common.{put_by_one, FollowsRun, new_machine, run_of_machine, ◌≡◌, ℕ, List, [], ◌∷◌, ◌++◌, refl, ap, sym, ◌∙◌, append-nil}
-use Rattle.uxn_line.proofs.Common.{append_assoc, Change, Trace, no_outputs, put_by, put_in, PlaceHasEnded, LineJob, IsJob, script_at, rom_at, stream}
-use Rattle.uxn_line.proofs.Common.{after}
-use Rattle.vector_loop.specs.Places.{run_left}
+use Rattle.uxn_line.proofs.Common.{put_by-append, FollowsRun, new_machine, run_of_machine, ◌≡◌, ℕ, ◌++◌, ap, sym, ◌∙◌, append-nil}
+use Rattle.uxn_line.proofs.Common.{Trace, no_outputs, put_by, put_in, PlaceHasEnded, LineJob, IsJob, script_at, rom_at, stream}
+use Rattle.uxn_line.proofs.Common.{after, run_left}
 use Rattle.vector_loop.specs.StepLaws.{ended-nothing, steps-are}
-
-pub put_by-append : (first more : List Change) → put_by (first ++ more) ≡ put_by first ++ put_by more
-put_by-append [] more = refl
-put_by-append (change ∷ first) more =
-    ap (λ bytes. put_by_one change ++ bytes) (put_by-append first more) ∙ sym (append_assoc (put_by_one change) (put_by first) (put_by more))
 
 pub follows : (job : LineJob) → IsJob job → (machine count : ℕ) → FollowsRun (after job machine count) (run_of_machine job machine)
 follows job is machine count =

@@ -1,5 +1,6 @@
 -- What a machine of a line represents (profile).
 use Rattle.std.specs.Prelude.{◌≡◌, ℕ, ◌==◌, List, [], ◌∷◌, ◌++◌, None, if◌then◌else◌}
+use Rattle.uxn_limits.specs.declared.ports.TheConstants.{CONSOLE_WRITE}
 use Rattle.uxn_opcodes.specs.declared.Core.{Core}
 use Rattle.varvara_bus.specs.Writes.{writes_at}
 use Rattle.varvara_bus.specs.declared.devices.Devices.{Devices}
@@ -11,7 +12,7 @@ use Rattle.vector_loop.specs.Places.{Place}
 -- of bytes written to ports those written to port 18
 abbrev pub handed_in : List (ℕ × ℕ) → List ℕ
 handed_in [] = []
-handed_in (write ∷ writes) = (if write.0 == 0x18 then write.1 ∷ [] else []) ++ handed_in writes
+handed_in (write ∷ writes) = (if write.0 == CONSOLE_WRITE then write.1 ∷ [] else []) ++ handed_in writes
 
 -- the bytes that the next instruction writes to port 18, one at most: DEO at 18, and DEO2 at 17 and 18
 unfoldable pub handed_on : Core → List ℕ

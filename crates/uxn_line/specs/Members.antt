@@ -2,6 +2,7 @@
 use Rattle.std.specs.Prelude.{◌≡◌, ◌↔◌, ℕ, zero, suc, ◌==◌, ◌&&◌, ◌||◌, not, if◌then◌else◌}
 use Rattle.std.specs.Prelude.{Bool, true, false, List, [], ◌∷◌, ◌++◌, Option, Some}
 use Rattle.std.specs.Prelude.{None, slice_get}
+use Rattle.uxn_limits.specs.declared.ports.TheConstants.{SYSTEM_STATE}
 use Rattle.circular_buffer.specs.Buffer.{buffer}
 use Rattle.play_script.specs.declared.script.Event.TheVariants.{Input, EndInput}
 use Rattle.play_script.specs.declared.script.Clock.{Clock}
@@ -19,7 +20,7 @@ use Rattle.uxn_line.specs.declared.line.Line.{Line}
 pub record MemberAt (member : Member) (now : Place) : Type 0 where
   pub stands : MachineRepresents member.machine now
   pub given : (member.all_given ≡ true) ↔ (now.pending_inputs ≡ [])
-  pub state : now.left ≡ 0 → member.state ≡ stored now.done.last.devices.history 0x0f
+  pub state : now.left ≡ 0 → member.state ≡ stored now.done.last.devices.history SYSTEM_STATE
 
 -- a machine of a script has these arguments and this clock, and whether nothing is given to it
 pub record BeginsWith (script : ScriptView) (texts : List (List ℕ)) (clock : Clock) (all_given : Bool) : Type 0 where

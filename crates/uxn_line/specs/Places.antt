@@ -1,7 +1,7 @@
 -- The turns of a machine of a line, which are the steps of its run, and what they write to port 18 (profile).
-use Rattle.std.specs.Prelude.{◌≡◌, ℕ, Bool, true, IsTrue, List, [], ◌∷◌, ◌++◌, None, is_some}
+use Rattle.std.specs.Prelude.{◌≡◌, ℕ, Bool, true, IsTrue, List, None, is_some}
 use Rattle.std.specs.List.{list_all}
-use Rattle.uxn_io_traits.specs.Outside.{Change, ToOut, ToErr, Creates, ToFile, Removes}
+use Rattle.uxn_io_traits.specs.Outside.{put_by}
 use Rattle.vector_loop.specs.declared.pending_input.PendingInput.{PendingInput}
 use Rattle.vector_loop.specs.declared.output.Outputs.{Outputs}
 use Rattle.vector_loop.specs.PendingInputs.{console_byte_of}
@@ -25,18 +25,6 @@ IsForConsole pending_input = is_for_console pending_input ≡ true
 abbrev pub AreForConsole : List PendingInput → Type 0
 AreForConsole pending_inputs = IsTrue (list_all is_for_console pending_inputs)
 
--- the bytes that changes add to the standard output, which are those written to port 18
-abbrev pub put_by_one : Change → List ℕ
-put_by_one (ToOut byte) = byte ∷ []
-put_by_one (ToErr byte) = []
-put_by_one (Creates path) = []
-put_by_one (ToFile path byte) = []
-put_by_one (Removes path) = []
-
-abbrev pub put_by : List Change → List ℕ
-put_by [] = []
-put_by (change ∷ changes) = put_by_one change ++ put_by changes
-
--- those written so far
+-- the bytes written to port 18 so far
 abbrev pub put_in : Place → List ℕ
 put_in now = put_by now.done.changes

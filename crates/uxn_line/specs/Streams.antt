@@ -3,6 +3,7 @@ use Rattle.std.specs.Prelude.{◌≡◌, ℕ, zero, suc, ◌≤◌, List, [], �
 use Rattle.std.specs.FinMap as nodes_map
 use Rattle.std.specs.Prelude.{slice_index_or, Bool, false, IsTrue}
 use Rattle.std.specs.List.{list_all}
+use Rattle.uxn_limits.specs.declared.ports.TheConstants.{SYSTEM_STATE}
 use Rattle.uxn_opcodes.specs.Rule.{new_core}
 use Rattle.play_script.specs.declared.script.Clock.{Clock}
 use Rattle.play_script.specs.declared.script.Event.{Event}
@@ -18,7 +19,8 @@ use Rattle.vector_loop.specs.State.{State, new_tally}
 use Rattle.vector_loop.specs.Trace.{Trace}
 use Rattle.vector_loop.specs.Run.{run}
 use Rattle.vector_loop.specs.Places.{Place, PlaceHasEnded, after_steps, run_begun}
-use Rattle.uxn_line.specs.Places.{is_for_console, no_outputs, put_by, put_in}
+use Rattle.uxn_io_traits.specs.Outside.{put_by}
+use Rattle.uxn_line.specs.Places.{is_for_console, no_outputs, put_in}
 
 -- what a line is made of: a ROM for each machine, the script of the first one, and the budget of every vector
 pub record LineJob : Type 0 where
@@ -68,7 +70,7 @@ stream job machine = put_by (run_of_machine job machine).changes
 
 -- the exit code of a run that ends in this state
 abbrev pub exit_code_at : State → ℕ
-exit_code_at state = exit_code_of (stored state.devices.history 0x0f)
+exit_code_at state = exit_code_of (stored state.devices.history SYSTEM_STATE)
 
 -- where the run of a machine begins
 abbrev pub first_place : ℕ → List ℕ → ScriptView → Place

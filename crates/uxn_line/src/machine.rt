@@ -1,5 +1,6 @@
 //! One machine of a line: its core and its devices, with nothing outside. It can stop between any two instructions.
-ghost use Rattle.std.specs.Prelude.{◌++◌, ◌≤◌, ◌-◌, ◌==◌, if◌then◌else◌, IfOk, None, length, ◌≡◌, ℕ, ◌<◌, ◌∷◌, [], List, false};
+ghost use Rattle.std.specs.Prelude.{◌++◌, ◌≤◌, ◌==◌, IfOk, None, length, ◌≡◌, ℕ, ◌<◌, ◌∷◌, [], List, false};
+ghost use Rattle.uxn_limits.specs.declared.ports.TheConstants.{SYSTEM_STATE, CONSOLE_VECTOR, CONSOLE_READ, CONSOLE_TYPE};
 ghost use Rattle.uxn_memory.specs.Bytes.{largest_rom};
 ghost use Rattle.uxn_opcodes.specs.Rule.{opcode_at};
 ghost use Rattle.console_port.specs.Console.{event_byte};
@@ -24,7 +25,7 @@ use play_script::Clock as ScriptClock;
 use std::alloc::{AllocError, Global};
 use uxn_io_traits::{Bytes, NoSink, NoTree};
 use uxn_limits::ports::{CONSOLE_TYPE, CONSOLE_VECTOR, SYSTEM_STATE};
-use uxn_opcodes::{Core, step};
+use uxn_opcodes::{Core, Turn, step};
 use varvara_bus::{Bus, Clock, Devices};
 use vector_loop::PendingInput;
 
@@ -39,36 +40,25 @@ pub struct Machine {
     pub left: u32,
 }
 
-/// Runs one instruction. Nothing outside is there and there is no root, so it never stops.
-fn run_instruction(core: &mut Core, devices: &mut Devices)
-    ensures { (state : DeviceState) → Rests devices.old state → MachineHasDone core.new devices.new (instruction_effect state core.old) }
+/// Runs one instruction, and says whether it was BRK. Nothing outside is there and there is no root, so it never stops.
+fn run_instruction(core: &mut Core, devices: &mut Devices) -> bool
+    ensures broke { result ≡ (opcode_at core.old == 0) }
+    ensures done { (state : DeviceState) → Rests devices.old state → MachineHasDone core.new devices.new (instruction_effect state core.old) }
 {
     let mut tree = NoTree;
     let mut out = NoSink;
     let mut err = NoSink;
     let mut bus = Bus::new(devices, &mut tree, &mut out, &mut err);
-    let _done = step(core, &mut bus);
-}
-
-/// What is left of a budget behind the coming instruction: nothing behind BRK.
-fn left_behind(core: &Core, left: u32) -> u32
-    requires { 0 < left }
-    ensures left { result ≡ (if opcode_at core.now == 0 then 0 else left - 1) }
-    ensures less { result < left }
-{
-    if core.memory.get(core.at) == 0 {
-        0
-    } else {
-        left - 1
-    }
+    let done = step(core, &mut bus);
+    done == Ok(Turn::Broke)
 }
 
 /// Stores a byte and a kind at the console, and gives the address of its vector.
 fn hold(devices: &mut Devices, byte: u8, kind: EventKind) -> u16
     ensures devices { (state : DeviceState) → Rests devices.old state
-        → Rests devices.new (storing ((0x12, byte) ∷ (0x17, event_byte kind) ∷ []) state) }
+        → Rests devices.new (storing ((CONSOLE_READ, byte) ∷ (CONSOLE_TYPE, event_byte kind) ∷ []) state) }
     ensures vector { (state : DeviceState) → Rests devices.old state
-        → result ≡ stored_short (storing ((0x12, byte) ∷ (0x17, event_byte kind) ∷ []) state).history 0x10 }
+        → result ≡ stored_short (storing ((CONSOLE_READ, byte) ∷ (CONSOLE_TYPE, event_byte kind) ∷ []) state).history CONSOLE_VECTOR }
 {
     let mut tree = NoTree;
     let mut out = NoSink;
@@ -135,9 +125,8 @@ impl Machine {
         ensures put { (budget : ℕ) (now : Place) → MachineRepresents self.old now
             → put_in (turn budget now) ≡ put_in now ++ handed_on self.old.core }
     {
-        let left = left_behind(&self.core, self.left);
-        run_instruction(&mut self.core, &mut self.devices);
-        self.left = left;
+        let broke = run_instruction(&mut self.core, &mut self.devices);
+        self.left = if broke { 0 } else { self.left - 1 };
     }
 
     /// Gives an idle machine whose run is not over what comes next. What is not for the console does nothing.
@@ -161,7 +150,7 @@ impl Machine {
         requires { self.old.left ≡ 0 }
         ensures most { self.new.left ≤ budget }
         ensures begins { (held : State) (done : Trace) (later : List PendingInput) → self.old.core ≡ held.core
-            → Rests self.old.devices held.devices → address ≡ stored_short held.devices.history 0x10
+            → Rests self.old.devices held.devices → address ≡ stored_short held.devices.history CONSOLE_VECTOR
             → MachineRepresents self.new (vector_begins budget held done later) }
     {
         if address != 0 {
@@ -172,7 +161,7 @@ impl Machine {
 
     /// The byte in the port of the state, which ends the run of an idle machine where it is not 0.
     pub(crate) fn state(&mut self) -> u8
-        ensures state { (now : Place) → MachineRepresents self.old now → result ≡ stored now.done.last.devices.history 0x0f }
+        ensures state { (now : Place) → MachineRepresents self.old now → result ≡ stored now.done.last.devices.history SYSTEM_STATE }
         ensures same { self.new ≡ self.old }
     {
         let mut tree = NoTree;

@@ -2,7 +2,8 @@
 use Rattle.uxn_task_files.proofs.Common.{Err, List, Ok, Option, Some, None, Result, [], arith, map, ℕ, ◌∷◌, ◌++◌, ◌≡◌, ◌≤◌, common_steps, map-append}
 use Rattle.uxn_task_files.proofs.Common.{Bool, true, false, outputs_of, RunTask, DebugTask, AssembleTask, DisassembleTask, Assemble, SourceFiles}
 use Rattle.uxn_task_files.proofs.Common.{output_texts, Text, text_paths, Refusal, Label, Sourced, Inquiry, Answer, and_then, gather, free_outputs}
-use Rattle.uxn_task_files.proofs.Common.{rules}
+use Rattle.uxn_task_files.proofs.Common.{rules, then_steps}
+use Rattle.uxn_task_files.specs.Accepted.{validated_script}
 unfoldable use Rattle.uxn_task_files.proofs.Common.{text_of, requested_text, source_of, program_of, symbols_of, script_of, commands_of, setup_of}
 unfoldable use Rattle.uxn_task_files.proofs.Common.{machine_of, run_of, files_of, disassembly_of, machines_of, free_output}
 unfoldable use Rattle.uxn_task_files.proofs.Common.{source_inquiry}
@@ -54,16 +55,23 @@ unfolding requested_text
 requested-asked kind None = tt
 requested-asked kind (Some path) = asked-then _ (text_of kind path) _ (text-asked kind path) (λ text. tt)
 
-as-given : (said : Result Sourced SourceFault) → IsOfInputs (λ value. Unit {0}) (result_as Faulty said)
-as-given (Ok source) = tt
-as-given (Err fault) = omega arith
+pub then-given : {A B : Type 0} (Q : B → Type 0) (said : Result A Refusal) (next : A → Result B Refusal) → IsOfInputs (λ value. Unit {0}) said
+    → ((value : A) → IsOfInputs Q (next value)) → IsOfInputs Q (then_steps said next)
+then-given Q (Ok value) next given more = more value
+then-given Q (Err refusal) next given more = given
+
+pub source-given : (said : Result Sourced SourceFault) → IsOfInputs (λ value. Unit {0}) (result_as Faulty said)
+source-given said = grind arith
+
+pub script-given : (text : List ℕ) → IsOfInputs (λ value. Unit {0}) (validated_script text)
+script-given text = grind arith
 
 pub source-asked : (path : List ℕ) → IsAsked (source_of path)
 unfolding source_of
 source-asked path =
     asked-then _ (text_of kinds.Source path) _ (text-asked kinds.Source path)
     (λ text. always-bind (λ said. Unit {0}) (IsOfInputs (λ value. Unit {0})) (source_inquiry path text) (λ said. Answer (result_as Faulty said))
-    (asked-all (λ said. Unit {0}) (source_inquiry path text) (λ said. tt)) (λ said _. as-given said))
+    (asked-all (λ said. Unit {0}) (source_inquiry path text) (λ said. tt)) (λ said _. source-given said))
 
 program-asked : (rom : Bool) (path : List ℕ) → IsAsked (program_of rom path)
 unfolding program_of
@@ -76,7 +84,7 @@ symbols-asked path = asked-then _ (requested_text kinds.Symbols path) _ (request
 
 script-asked : (path : Option (List ℕ)) → IsAsked (script_of path)
 unfolding script_of
-script-asked path = asked-then _ (requested_text kinds.Script path) _ (requested-asked kinds.Script path) (λ text. grind arith)
+script-asked path = asked-then _ (requested_text kinds.Script path) _ (requested-asked kinds.Script path) (λ text. script-given _)
 
 commands-asked : (labels : List Label) (path : Option (List ℕ)) → IsAsked (commands_of labels path)
 unfolding commands_of
@@ -95,7 +103,7 @@ gather-asked ask done (path ∷ paths) each = asked-then _ (ask path) _ (each pa
 
 pub run-asked : (run : RunTask) (debug : Option DebugTask) → IsAsked (run_of run debug)
 unfolding run_of
-run-asked = search (rules, asked-then, program-asked, symbols-asked, script-asked, commands-asked)
+run-asked = search (rules, asked-then, program-asked, symbols-asked, script-asked, commands-asked) depth 9
 
 pub disassembly-asked : (task : DisassembleTask) → IsAsked (disassembly_of task)
 unfolding disassembly_of

@@ -1,9 +1,12 @@
 pub mod Common
 pub mod StepLemmas
-pub mod WordLemmas
 pub mod GivesLemmas
+pub mod WritingLemmas
 pub mod OutputLemmas
 pub mod PlaceLemmas
+pub mod WordLemmas
+pub mod StatusLemmas
+pub mod AnswerLemmas
 pub mod ApartLemmas
 pub mod FreeLemmas
 pub mod DidLemmas

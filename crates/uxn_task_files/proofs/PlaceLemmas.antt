@@ -1,8 +1,13 @@
 -- Which of some paths meet and clash, and what tests find among them.
 use Rattle.uxn_task_files.proofs.Common.{Bool, List, None, Some, [], arith, bytes_eq, cond, count_by, false, find, refl, true, ℕ, ◌++◌, ◌+◌, ◌∷◌, ◌≡◌}
-use Rattle.uxn_task_files.proofs.Common.{◌≤◌, common_steps, bytes_eq-Decides, list_any, clashes, meets}
+use Rattle.uxn_task_files.proofs.Common.{◌≤◌, common_steps, bytes_eq-Decides, list_any, clashes, meets, IfSome, Task, RunTask, DebugTask, Run}
+use Rattle.uxn_task_files.proofs.Common.{root_of, outputs_of}
+use Rattle.file_ports.specs.Device.{suits}
+unfoldable use Rattle.file_ports.specs.RootPart.{is_in}
+use Rattle.std.proofs.lemmas.Bool.{false_from_ne_true}
 use Rattle.std.proofs.lemmas.Bool.Decides.{nat_tests}
 use Rattle.std.proofs.lemmas.List.Sums.{sum_by-cons, sum_by-append}
+use Rattle.uxn_arguments.specs.Places.{HasApartOutputs}
 use Rattle.uxn_io_traits.specs.PathText.{is_under}
 
 -- one where a test holds
@@ -74,3 +79,30 @@ clash_from inputs places path few input = grind (arith, nat_tests, common_steps)
 pub no_clash-fewer : (inputs more places paths : List (List ℕ)) → find (clashes inputs (more ++ places)) paths ≡ None
     → find (clashes inputs places) paths ≡ None
 no_clash-fewer = grind (arith, common_steps, none_each, clash_parts, clash_from, count-parts)
+
+-- ---- outputs that do not clash lie outside the root, and the root is not beneath them
+
+-- an output does not meet the root
+apart_from : (inputs outputs : List (List ℕ)) (root path : List ℕ) → find (clashes inputs (root ∷ outputs)) outputs ≡ None
+    → list_any (bytes_eq path) outputs ≡ true → meets path root ≡ false
+apart_from = grind (arith, common_steps, clash_parts, none_among, false_from_ne_true, one_if, count-first, meets_one)
+
+-- the outputs of a task lie apart from its root
+pub all-apart : (task : Task) → HasApartOutputs task
+    → IfSome (root_of task) (λ r. (path : List ℕ) → list_any (bytes_eq path) (outputs_of task) ≡ true → meets path r ≡ false)
+all-apart = grind (arith, common_steps, apart_from)
+
+pub apart-outside : (root path : List ℕ) → meets path root ≡ false → is_in root path ≡ false
+unfolding is_in
+apart-outside root path apart = let parts = meets_parts path root apart in rw (parts.0, parts.1) refl
+
+-- so a device at its path would not suit the root
+pub outputs-outside : (task : Task) (path : List ℕ) → HasApartOutputs task → list_any (bytes_eq path) (outputs_of task) ≡ true
+    → suits (root_of task) (Some path) ≡ false
+outputs-outside = grind (arith, common_steps, apart_from, apart-outside)
+
+-- nor is the log of a debugger beneath it
+pub log-outside : (run : RunTask) (debug : DebugTask) → HasApartOutputs (Run run (Some debug))
+    → IfSome run.root (λ r. (path : List ℕ) → is_in r path ≡ true → bytes_eq path debug.log ≡ false)
+log-outside run debug apart =
+    let out = λ (path : List ℕ). outputs-outside (Run run (Some debug)) path apart in grind (arith, common_steps, out, false_from_ne_true)

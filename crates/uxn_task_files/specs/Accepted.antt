@@ -4,10 +4,10 @@ use Rattle.std.specs.Prelude.{ℕ, Bool, true, false, not, ◌&&◌, if◌then�
 use Rattle.std.specs.Prelude.{◌++◌, Option, Some, None, option_map, option_and_then, unwrap_or}
 use Rattle.std.specs.Prelude.{Result, Ok, Err}
 use Rattle.std.specs.List.{list_any}
+use Rattle.std.specs.Option.{option_map_or, option_transpose}
 use Rattle.std.specs.Str.{bytes_eq}
 use Rattle.debug_commands.specs.declared.command.DebugCommand.{DebugCommand}
 use Rattle.debug_commands.specs.Reading.{commands_of_text}
-use Rattle.play_script.specs.declared.script.ScriptKind.{ScriptKind}
 use Rattle.play_script.specs.Scripts.{ScriptView, script_of as script_in}
 use Rattle.setup_lines.specs.Setups.{SetupView, setup_of as setup_in}
 use Rattle.tal_listing.specs.Disassembly.{disassembly}
@@ -18,7 +18,6 @@ use Rattle.tal_assembly.specs.Sources.{Sourced, source_inquiry}
 use Rattle.tal_symbols.specs.Reading.{symbols_in}
 use Rattle.tal_symbols.specs.SymbolFile.{symbol_file}
 use Rattle.tal_words.specs.declared.name.Label.{Label}
-use Rattle.uxn_arguments.specs.Values.{then_steps}
 use Rattle.uxn_arguments.specs.declared.task.AssembleTask.{AssembleTask}
 use Rattle.uxn_arguments.specs.declared.task.DebugTask.{DebugTask}
 use Rattle.uxn_arguments.specs.declared.task.DisassembleTask.{DisassembleTask}
@@ -55,28 +54,24 @@ unfoldable pub program_of : Bool → List ℕ → Inquiry (Result Loaded Refusal
 program_of true path = and_then (text_of kinds.Rom path) (λ rom. Answer (Ok (loaded_rom rom)))
 program_of false path = and_then (source_of path) (λ source. Answer (Ok (loaded_source source)))
 
--- a script that has no fault (132); without a file it is that of an empty text
-abbrev pub validated_script : Result ScriptView (ℕ × ScriptKind) → Result ScriptView Refusal
-validated_script said = result_as (λ fault. BadScript fault.0 fault.1) said
+-- a script that has no fault (132)
+abbrev pub validated_script : List ℕ → Result ScriptView Refusal
+validated_script text = result_as (λ fault. BadScript fault.0 fault.1) (script_in text)
 
-abbrev pub said_script : Option (List ℕ) → Result ScriptView Refusal
-said_script text = validated_script (script_in (unwrap_or text []))
-
+-- without a file it is that of an empty text
 unfoldable pub script_of : Option (List ℕ) → Inquiry (Result ScriptView Refusal)
-script_of path = and_then (requested_text kinds.Script path) (λ text. Answer (said_script text))
+script_of path = and_then (requested_text kinds.Script path) (λ text. Answer (validated_script (unwrap_or text [])))
 
 -- the labels of a symbol file that has no fault (134), where one is given
 abbrev pub said_symbols : Option (List ℕ) → Result (Option (List Label)) Refusal
-said_symbols None = Ok None
-said_symbols (Some text) = then_steps (result_as (λ bad. BadSymbols bad.entry bad.kind) (symbols_in text)) (λ labels. Ok (Some labels))
+said_symbols text = result_as (λ bad. BadSymbols bad.entry bad.kind) (option_transpose (option_map symbols_in text))
 
 unfoldable pub symbols_of : Option (List ℕ) → Inquiry (Result (Option (List Label)) Refusal)
 symbols_of path = and_then (requested_text kinds.Symbols path) (λ text. Answer (said_symbols text))
 
 -- commands that have no fault (133); without a file there are none
 abbrev pub said_commands : List Label → Option (List ℕ) → Result (List DebugCommand) Refusal
-said_commands labels None = Ok []
-said_commands labels (Some text) = result_as (λ fault. BadCommands fault.0 fault.1) (commands_of_text labels text)
+said_commands labels text = option_map_or (λ t. result_as (λ fault. BadCommands fault.0 fault.1) (commands_of_text labels t)) text (Ok [])
 
 unfoldable pub commands_of : List Label → Option (List ℕ) → Inquiry (Result (List DebugCommand) Refusal)
 commands_of labels path = and_then (requested_text kinds.Commands path) (λ text. Answer (said_commands labels text))

@@ -19,36 +19,34 @@ use Rattle.uxn_task_files.specs.declared.inputs.InputKind.TheVariants as kinds
 use Rattle.uxn_task_files.specs.declared.refusal.Refusal.{Refusal}
 use Rattle.uxn_task_files.specs.declared.refusal.Refusal.TheVariants.{Missing, Faulty, LongRom, BadSymbols, BadScript, BadCommands, BadSetup}
 
--- no more bytes of a file are read: all banks are filled by a ROM that is run, bank 0 by one that is disassembled
-abbrev pub limit_of : InputKind → ℕ
-limit_of kinds.Rom = largest_rom
-limit_of kinds.BankRom = rom_limit
-limit_of kinds.Symbols = SYMBOLS_LIMIT
-limit_of _ = TEXT_LIMIT
-
 -- a source that is too long has its fault at its first word, as the empty word
 abbrev pub too_long : SourceFault
 too_long = record { file = None; line = 1; column = 1; kind = Words LongSource; word = tight [] }
 
--- why a longer file is refused, which has so many bytes
-abbrev pub long_refusal : InputKind → ℕ → Refusal
-long_refusal kinds.Source length = Faulty too_long
-long_refusal kinds.Rom length = LongRom length
-long_refusal kinds.BankRom length = LongRom length
-long_refusal kinds.Symbols length = BadSymbols 0 Long
-long_refusal kinds.Script length = BadScript 1 LongScript
-long_refusal kinds.Commands length = BadCommands 1 LongCommands
-long_refusal kinds.Setup length = BadSetup 1 LongSetup
+-- the most bytes of a file that are read, and the refusal of a file that has more, by its length
+pub record SizeRule : Type 0 where
+  pub most : ℕ
+  pub refusal : ℕ → Refusal
+
+-- a ROM that is run may fill all banks; one that is disassembled, bank 0
+abbrev pub size_rule : InputKind → SizeRule
+size_rule kinds.Source = record { most = TEXT_LIMIT; refusal = λ length. Faulty too_long }
+size_rule kinds.Rom = record { most = largest_rom; refusal = LongRom }
+size_rule kinds.BankRom = record { most = rom_limit; refusal = LongRom }
+size_rule kinds.Symbols = record { most = SYMBOLS_LIMIT; refusal = λ length. BadSymbols 0 Long }
+size_rule kinds.Script = record { most = TEXT_LIMIT; refusal = λ length. BadScript 1 LongScript }
+size_rule kinds.Commands = record { most = TEXT_LIMIT; refusal = λ length. BadCommands 1 LongCommands }
+size_rule kinds.Setup = record { most = TEXT_LIMIT; refusal = λ length. BadSetup 1 LongSetup }
 
 -- the bytes of a file that is there (130) and not too long
 abbrev pub kind_text : InputKind → List ℕ → FileBytes → Result (List ℕ) Refusal
 kind_text kind path (Found text) = Ok text.list
 kind_text kind path NoFile = Err (Missing path)
-kind_text kind path (TooLong length) = Err (long_refusal kind length)
+kind_text kind path (TooLong length) = Err ((size_rule kind).refusal length)
 
 -- its bytes are asked for
 unfoldable pub text_of : InputKind → List ℕ → Inquiry (Result (List ℕ) Refusal)
-text_of kind path = and_then (file_of path (limit_of kind)) (λ file. Answer (kind_text kind path file))
+text_of kind path = and_then (file_of path (size_rule kind).most) (λ file. Answer (kind_text kind path file))
 
 -- the same, where the words name one
 unfoldable pub requested_text : InputKind → Option (List ℕ) → Inquiry (Result (Option (List ℕ)) Refusal)

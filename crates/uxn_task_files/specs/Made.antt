@@ -3,7 +3,7 @@ use Rattle.std.specs.Prelude.{◌≡◌, ◌⊎◌, ℕ, true, false, List, Opti
 use Rattle.std.specs.List.{list_any}
 use Rattle.std.specs.Str.{bytes_eq}
 use Rattle.uxn_inquiry.specs.Gives.{Gives}
-use Rattle.uxn_io_traits.specs.Ended.{TreeEnded, TreeLooked, Refused as CreateRefused}
+use Rattle.uxn_io_traits.specs.Ended.{TreeEnded, TreeLooked, Refused as CreateRefused, creating_all}
 use Rattle.uxn_io_traits.specs.Faults.{Counted}
 use Rattle.uxn_io_traits.specs.Files.{Nodes, file_at}
 use Rattle.uxn_io_traits.specs.declared.sinks.Failed.{Failed}
@@ -19,7 +19,7 @@ use Rattle.uxn_task_files.specs.declared.refusal.Halt.{Halt}
 use Rattle.uxn_task_files.specs.declared.refusal.Halt.TheVariants.{Refused, Stopped}
 use Rattle.uxn_task_files.specs.Accepted.{free_outputs}
 use Rattle.uxn_task_files.specs.World.{Text}
-use Rattle.uxn_task_files.specs.Writing.{creating_all, writing}
+use Rattle.uxn_task_files.specs.Writing.{writing}
 
 -- each output can be made, as the contents of the tree have it, and is no included file
 abbrev pub AreFree : Option Nodes → List (List ℕ) → List (List ℕ) → Type 0

@@ -1,14 +1,10 @@
 -- Files that are made and filled, as changes in order.
 use Rattle.std.specs.Prelude.{ℕ, Bool, List, ◌++◌, map, Option}
 use Rattle.std.specs.List.{flat_map}
-use Rattle.uxn_io_traits.specs.Ended.{TreeEnded, Refused, appending}
-use Rattle.uxn_io_traits.specs.Outside.{Change, Creates}
+use Rattle.uxn_io_traits.specs.Ended.{TreeEnded, Refused, appending, creating_all}
+use Rattle.uxn_io_traits.specs.Outside.{Change}
 use Rattle.uxn_io_traits.specs.State.{TreeState}
 use Rattle.uxn_task_files.specs.World.{Text}
-
--- files made, empty and in order
-abbrev pub creating_all : List (List ℕ) → List Change
-creating_all paths = map (λ path. Creates path) paths
 
 -- files get their bytes, in order
 abbrev pub filling_all : List Text → List Change

@@ -2,7 +2,7 @@
 ghost use Rattle.std.specs.Prelude.{◌≡◌, ◌≤◌, length, option_map, IfOk};
 ghost use Rattle.uxn_io_traits.specs.WholeFile.{KeepsLimit};
 ghost use Rattle.uxn_inquiry.specs.Inquires.{Inquires, Says};
-ghost use Rattle.uxn_task_files.specs.Inputs.{requested_text, text_of, limit_of, long_refusal, kind_text, too_long};
+ghost use Rattle.uxn_task_files.specs.Inputs.{requested_text, text_of, size_rule, kind_text, too_long};
 
 use super::refusal::Refusal;
 use debug_commands::CommandKind;
@@ -38,7 +38,7 @@ pub enum InputKind {
 impl InputKind {
     /// No more bytes of a file are read.
     fn limit(self) -> u32
-        ensures { result ≡ limit_of self }
+        ensures { result ≡ (size_rule self).most }
     {
         match self {
             InputKind::Rom => limits::LARGEST_ROM as u32,
@@ -52,7 +52,7 @@ impl InputKind {
 
     /// Why a longer file is refused.
     fn long_refusal(self, alloc: Global, length: u64) -> Refusal
-        ensures { result ≡ long_refusal self length }
+        ensures { result ≡ (size_rule self).refusal length }
     {
         match self {
             InputKind::Source => Refusal::Faulty(long_source(alloc)),
@@ -68,7 +68,7 @@ impl InputKind {
     /// The bytes of a file that is there and not too long.
     fn kind_text(self, alloc: Global, path: &Path, file: FileBytes) -> Result<Bytes, Halt<Refusal>>
         ensures says { Says (λ text. text.list) (kind_text self path.now file) result }
-        ensures limit { KeepsLimit (limit_of self) file → IfOk result (λ text. length text.list ≤ limit_of self) }
+        ensures limit { KeepsLimit (size_rule self).most file → IfOk result (λ text. length text.list ≤ (size_rule self).most) }
     {
         match file {
             FileBytes::Found(text) => Ok(text),
@@ -99,7 +99,7 @@ pub fn read_text<T: Tree>(
     tree: &mut T,
 ) -> Result<Bytes, Halt<Refusal>>
     ensures text { Inquires (λ text. text.list) (text_of kind path.now) (T.state tree.old) (T.state tree.new) result }
-    ensures limit { IfOk result (λ text. length text.list ≤ limit_of kind) }
+    ensures limit { IfOk result (λ text. length text.list ≤ (size_rule kind).most) }
 {
     let file = read_whole(alloc, tree, path, kind.limit())?;
     kind.kind_text(alloc, path, file)

@@ -1,8 +1,7 @@
 //! The script that a run is given.
-ghost use Rattle.std.specs.Prelude.{option_map};
-ghost use Rattle.play_script.specs.Scripts.{script_of as script_in};
+ghost use Rattle.std.specs.Prelude.{[], option_map, unwrap_or};
 ghost use Rattle.uxn_inquiry.specs.Inquires.{Inquires, Says};
-ghost use Rattle.uxn_task_files.specs.Accepted.{script_of, validated_script, said_script};
+ghost use Rattle.uxn_task_files.specs.Accepted.{script_of, validated_script};
 
 use super::inputs::{InputKind, read_requested};
 use super::refusal::Refusal;
@@ -13,7 +12,7 @@ use uxn_io_traits::{Bytes, Path, Tree};
 
 /// The script of a text.
 pub fn validate_script(alloc: Global, text: &[u8]) -> Result<Script, Halt<Refusal>>
-    ensures { Says (λ script. script) (validated_script (script_in text.now)) result }
+    ensures { Says (λ script. script) (validated_script text.now) result }
 {
     match read_script(alloc, text) {
         Ok(script) => Ok(script),
@@ -26,7 +25,7 @@ pub fn validate_script(alloc: Global, text: &[u8]) -> Result<Script, Halt<Refusa
 
 /// The script of a file; without one that of an empty text.
 fn said_script(alloc: Global, text: &Option<Bytes>) -> Result<Script, Halt<Refusal>>
-    ensures { Says (λ script. script) (said_script (option_map (λ text. text.list) text.now)) result }
+    ensures { Says (λ script. script) (validated_script (unwrap_or (option_map (λ text. text.list) text.now) [])) result }
 {
     match text {
         Some(text) => validate_script(alloc, text.as_slice()),

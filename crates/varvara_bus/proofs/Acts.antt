@@ -1,6 +1,6 @@
 -- What the actions of ports do to a bus.
 use Rattle.std.proofs.Common.{◌≡◌, Bool, true, false, ℕ, List, [], ◌∷◌, slice_set, refl, ap, sym, ◌∙◌, rules}
-use Rattle.std.specs.Prelude.{if◌then◌else◌, Option, Result, Ok, Err, OnOk, OnErr, IfErr, is_err}
+use Rattle.std.specs.Prelude.{if◌then◌else◌, Option, Some, None, Result, Ok, Err, OnOk, OnErr, IfErr, is_err}
 use Rattle.std.specs.Borrow.{MutBor}
 use Rattle.std.proofs.lemmas.List.{append-nil}
 use Rattle.uxn_io_traits.specs.declared.sinks.Failed.{Failed}
@@ -9,10 +9,9 @@ use Rattle.uxn_io_traits.specs.FaultLaws.{counted-same}
 use Rattle.uxn_io_traits.specs.Faults.{FaultTally, Counted, Ledger, Nobody, TheTree, counts}
 use Rattle.uxn_io_traits.specs.Outside.{Change, files_by}
 use Rattle.uxn_io_traits.specs.State.{TreeState, SinkState, Outside, outside}
-use Rattle.uxn_io_traits.specs.Ended.{TreeEnded, Ended, RefusesNone, AreOfTree, blame_of_sink}
-use Rattle.uxn_io_traits.specs.EndedLaws.{outside-of-tree, refuses-nothing}
+use Rattle.uxn_io_traits.specs.Ended.{TreeEnded, Ended, CutShort, RefusesNone, AreOfTree, blame_of_sink}
+use Rattle.uxn_io_traits.specs.EndedLaws.{done-nothing, ended-then, outside-of-tree, refuses-nothing}
 use Rattle.uxn_io_traits.specs.declared.trees.Tree as trees
-use Rattle.uxn_io_traits.specs.TakingLaws.{remains-all}
 use Rattle.file_ports.specs.declared.stop.FileStop.{FileStop}
 use Rattle.file_ports.specs.declared.stop.FileStop.TheVariants as causes
 use Rattle.file_ports.specs.Device.{Suits}
@@ -34,8 +33,9 @@ use Rattle.varvara_bus.specs.State.{DeviceState, DevicesRepresent, HasFiles, dev
 use Rattle.varvara_bus.specs.Effect.{asks_tree, no_effect, act}
 use Rattle.varvara_bus.specs.FileActs.{file_base, file_in, file_action, file_outcome, file_acted}
 use Rattle.varvara_bus.specs.FileCalls.{stop_of, stopped_by_tree, FileAnswers, FileEnded}
-use Rattle.varvara_bus.specs.Bus.{BusModel, AreCutShort, SameBus, Becomes, RepresentsTo, ComesTo, KeepsBus, Leaves, file_held, held_page, outside_on, Makes, HasActed, HasStopped, ActEnds, contents_on}
-use Rattle.varvara_bus.specs.InstructionLaws.{same-again, makes-both, stops-later}
+use Rattle.varvara_bus.specs.Bus.{BusModel, SameBus, Becomes, RepresentsTo, ComesTo, KeepsBus, Leaves, file_held, held_page, outside_on}
+use Rattle.varvara_bus.specs.Bus.{Makes, HasActed, HasStopped, ActEnds, contents_on}
+use Rattle.varvara_bus.specs.InstructionLaws.{same-again}
 use Rattle.varvara_bus.proofs.FileCalls.{files-now}
 
 -- who counted a fault, where a sink was to take bytes
@@ -115,10 +115,7 @@ module _ {T O E : Type 0} (meaning : BusModel T O E) where
 
   -- that made no change outside
   stored-makes : (before now : Bus T O E) (port byte : ℕ) → Stored before now port byte → Makes meaning before now []
-  stored-makes before now port byte stored = record {
-    world = rw (stored.tree, stored.out, stored.err) refl;
-    remains = rw (stored.tree, stored.out, stored.err) (remains-all (outside_on meaning before).guaranteed (meaning.tree.state before.tree.now).contents);
-  }
+  stored-makes before now port byte stored = rw (stored.tree, stored.out, stored.err) (done-nothing (outside_on meaning before))
 
   -- the same four are borrowed where one of the sinks took something
   sinks-same : (before : Bus T O E) (out : MutBor O) (err : MutBor E) → out.ghost_name ≡ before.out.ghost_name → err.ghost_name ≡ before.err.ghost_name
@@ -142,14 +139,14 @@ module _ {T O E : Type 0} (meaning : BusModel T O E) where
     does = rw none (λ state stands. rw (is state) (record {
       core = refl;
       devices = (stands, refl);
-      makes = record { world = ended.world; remains = ended.remains };
+      makes = ended;
     }));
     same = sinks-same before out err borrowed_out borrowed_err;
   }
   sink-ends before out err core action byte changes (Err TreeFault) (Err failed) none is leaves same sink ended borrowed_out borrowed_err = cc
   sink-ends before out err core action byte changes (Err NoMemory) (Err failed) none is leaves same sink ended borrowed_out borrowed_err = cc
   sink-ends before out err core action byte changes (Err SinkFault) (Err failed) none is leaves same sink ended borrowed_out borrowed_err = record {
-    cut = λ state stands. rw (is state) (record { cut = ended.cut; not_guaranteed = ended.not_guaranteed });
+    cut = λ state stands. rw (is state) ended;
     leaves = leaves;
     keeps = rw none (refl, refl);
     page = refl;
@@ -169,7 +166,7 @@ module _ {T O E : Type 0} (meaning : BusModel T O E) where
     does = rw none (λ state stood. rw (is state) (record {
       core = refl;
       devices = (stands state stood, refl);
-      makes = record { world = refl; remains = remains-all (outside_on meaning before).guaranteed (meaning.tree.state before.tree.now).contents };
+      makes = done-nothing (outside_on meaning before);
     }));
     same = devices-same before devices borrowed frames clock root;
   }
@@ -194,12 +191,15 @@ module _ {T O E : Type 0} (meaning : BusModel T O E) where
   -- what a tree made short is stopped early beside two sinks; one that did not fail made all
   stops-by : (changes : List Change) (stop : Stop) (cause : FileStop) (a b : TreeState) (out err : SinkState) → stop ≡ stop_of cause
       → AreOfTree changes → TreeEnded changes (stopped_by_tree (Err stop)) a b
-      → AreCutShort (result_blame {T = Unit {0}} (Err stop)) (outside a out err) (outside b out err) changes
-  stops-by changes TreeFault cause a b out err is of ended =
-      let short = outside-of-tree changes true a b out err of ended in record { cut = short.cut; not_guaranteed = short.not_guaranteed }
+      → CutShort changes (result_blame {T = Unit {0}} (Err stop)) (outside a out err) (outside b out err)
+  stops-by changes TreeFault cause a b out err is of ended = outside-of-tree changes true a b out err of ended
   stops-by changes NoMemory cause a b out err is of ended =
       let done = outside-of-tree changes false a b out err of ended in
-      record { cut = record { made = changes; rest = []; parts = sym (append-nil changes); left = done.world }; not_guaranteed = tt }
+      record {
+        cut = record { made = changes; rest = []; parts = sym (append-nil changes); left = done.world };
+        ledger = done.ledger;
+        not_guaranteed = tt;
+      }
   stops-by changes SinkFault cause a b out err is of ended = absurd (no-sink cause is)
 
   pub file-ends : (before : Bus T O E) (devices : MutBor Devices) (tree : MutBor T) (core : Core) (memory : List ℕ) (number : FileNumber) (part : FileAct)
@@ -227,7 +227,7 @@ module _ {T O E : Type 0} (meaning : BusModel T O E) where
                 (files-now outcome.changes state.root state.part state.parent (meaning.tree.state before.tree.now).contents (meaning.tree.state tree.now).contents
                 stands.files lie made.stands);
           };
-          makes = record { world = all.world; remains = all.remains };
+          makes = all;
         };
     same = same;
   }
@@ -278,7 +278,7 @@ module _ {T O E : Type 0} (meaning : BusModel T O E) where
         record {
           core = does.core;
           devices = comes-stored asks before middle now port byte stored (act action byte after old).devices does.devices;
-          makes = makes-both meaning before middle now [] (act action byte after old).changes (stored-makes before middle port byte stored) does.makes;
+          makes = ended-then [] (act action byte after old).changes None _ _ _ (stored-makes before middle port byte stored) does.makes;
         };
     same = same-again meaning.tree before middle now stored.same acted.same;
   }
@@ -290,7 +290,7 @@ module _ {T O E : Type 0} (meaning : BusModel T O E) where
   stopped_by_act before middle now old new port byte action (Err stop) stored acted = record {
     cut = λ state stands.
         let after = storing ((port, byte) ∷ []) state in
-        stops-later meaning before middle now stop [] (act action byte after old).changes (stored-makes before middle port byte stored)
+        ended-then [] (act action byte after old).changes (Some _) _ _ _ (stored-makes before middle port byte stored)
         (acted.cut after (stands-stored (asks_tree action) before middle port byte stored state stands));
     leaves = λ state stands. rw (sym stored.tree) (acted.leaves (storing ((port, byte) ∷ []) state) (stored.devices.devices state stands));
     keeps = keeps-stored (asks_tree action) before middle now port byte old new stored acted.keeps;

@@ -10,11 +10,12 @@ use Rattle.uxn_io_traits.specs.EndedLaws.{contents_after-some, contents_after-no
 use Rattle.file_ports.specs.declared.stop.FileStop.{FileStop}
 use Rattle.file_ports.specs.Device.{FileState, idle_at, Suits}
 use Rattle.file_ports.specs.Names.{path_named}
-use Rattle.file_ports.specs.RootPart.{LieIn}
+use Rattle.file_ports.specs.RootPart.{IsIn, LieIn}
 use Rattle.file_ports.specs.Actions.{FileAction, Name, Read, Write, Stat, Delete, FileOutcome, Observed, observed_file, acts, act, reads, stats, count_from}
 use Rattle.file_ports.specs.AnswersAction.{AnswersAction, FileStopped, MemoryLeft, outcome_by, changes_unknown, changes_by, device_left, ActedOrStopped}
 use Rattle.file_ports.specs.PartLaws.{below-files_by, outcome-same}
-use Rattle.file_ports.specs.ActLaws.{lie-prefix, lie-none, parent-kept, rootless, act-nowhere, changes-of, path-kept}
+use Rattle.uxn_io_traits.specs.EachLaws.{each-parts}
+use Rattle.file_ports.specs.ActLaws.{lie-none, parent-kept, rootless, act-nowhere, changes-of, path-kept}
 use Rattle.uxn_io_traits.specs.CallLaws.{ended-as}
 use Rattle.file_ports.specs.OutsideLaws.{still-there}
 use Rattle.input_ports.specs.Page.{short_stores}
@@ -111,7 +112,8 @@ files-stay root changes failed a b lie ended = by failed ended.stands
     by : (how : Bool) → StandsAfter changes how a.contents b.contents → FilesStay root a.contents b.contents
     by false is = stays-by root changes a.contents b.contents lie is
     by true prefix =
-        stays-by root prefix.made a.contents b.contents (lie-prefix root prefix.made prefix.rest (subst (LieIn root) prefix.parts lie)) prefix.contents
+        stays-by root prefix.made a.contents b.contents (each-parts (IsIn root) prefix.made prefix.rest (subst (LieIn root) prefix.parts lie)).0
+        prefix.contents
 
 -- ---- the devices of a machine
 

@@ -3,10 +3,9 @@ use Rattle.std.specs.Prelude.{◌≡◌, ℕ, Bool, true, false, List, [], ◌�
 use Rattle.std.specs.Prelude.{IfSome, IsSome, slice_index}
 use Rattle.uxn_io_traits.specs.Files.{Nodes, file_at}
 use Rattle.uxn_io_traits.specs.Faults.{Counts, Blame}
-use Rattle.uxn_io_traits.specs.Ended.{RefusesNone}
-use Rattle.uxn_io_traits.specs.Outside.{Change, changed_by, IsCutOff}
+use Rattle.uxn_io_traits.specs.Ended.{RefusesNone, Done, CutShort}
+use Rattle.uxn_io_traits.specs.Outside.{Change}
 use Rattle.uxn_io_traits.specs.State.{Outside, outside}
-use Rattle.uxn_io_traits.specs.Taking.{Remains, WasNotGuaranteed}
 use Rattle.uxn_io_traits.specs.declared.sinks.Sink as sinks
 use Rattle.uxn_io_traits.specs.declared.trees.Tree as trees
 use Rattle.file_ports.specs.Device.{FileState, suits}
@@ -134,16 +133,6 @@ abbrev pub blame_for : Result (Unit {0}) Stop → Option Blame
 blame_for (Ok done) = None
 blame_for (Err stop) = Some (result_blame {T = Unit {0}} (Err stop))
 
--- all of these changes were made outside
-pub record AreMade (before now : Outside) (changes : List Change) : Type 0 where
-  pub world : now.world ≡ changed_by before.world changes
-  pub remains : Remains before.guaranteed now.guaranteed before.world.files changes
-
--- a prefix of them was made, and whoever is to blame was not guaranteed to make all of them
-pub record AreCutShort (blame : Blame) (before now : Outside) (changes : List Change) : Type 0 where
-  pub cut : IsCutOff before.world now.world changes
-  pub not_guaranteed : WasNotGuaranteed blame before.guaranteed before.world.files changes
-
 module _ {T O E : Type 0} (meaning : BusModel T O E) where
   -- what is outside, by what a bus is borrowed
   abbrev pub outside_on : Bus T O E → Outside
@@ -155,10 +144,10 @@ module _ {T O E : Type 0} (meaning : BusModel T O E) where
 
   -- these changes were made by a bus, or it stopped and a prefix of them was
   abbrev pub Makes : Bus T O E → Bus T O E → List Change → Type 0
-  Makes before now changes = AreMade (outside_on before) (outside_on now) changes
+  Makes before now changes = Done changes (outside_on before) (outside_on now)
 
   abbrev pub StopsShort : Bus T O E → Bus T O E → Stop → List Change → Type 0
-  StopsShort before now stop changes = AreCutShort (result_blame {T = Unit {0}} (Err stop)) (outside_on before) (outside_on now) changes
+  StopsShort before now stop changes = CutShort changes (result_blame {T = Unit {0}} (Err stop)) (outside_on before) (outside_on now)
 
   -- the bus and the core are as an effect says
   pub record HasEffect (before now : Bus T O E) (new : Core) (done : Effect) : Type 0 where

@@ -1,9 +1,11 @@
 -- Laws of footprints: an action touches nothing but what its footprint says.
 use Rattle.std.specs.Prelude.{◌≡◌, ℕ, ◌==◌, ◌||◌, not, Bool, true, false, ◌+◌, ◌%◌, ◌≤◌, List, []}
-use Rattle.std.specs.Prelude.{◌∷◌, ◌++◌, map, length, Option, option_map, is_some, IsTrue, refl}
+use Rattle.std.specs.Prelude.{◌∷◌, length, Option, option_map, is_some, IsTrue, refl}
 use Rattle.std.proofs.Common.{sym, ◌∙◌, inl, inr, rules, true≢false, arith}
 use Rattle.std.proofs.lemmas.Bool.{cases_Bool, eqb-true, and_parts}
-use Rattle.std.specs.List.{list_all}
+use Rattle.std.specs.List.{list_all, AllByRecursion}
+use Rattle.uxn_io_traits.specs.EachLaws.{each-map}
+use Rattle.uxn_limits.specs.declared.ports.TheConstants.{CONSOLE_WRITE}
 use Rattle.uxn_io_traits.specs.Outside.{Change, ToOut, ToErr, Creates, ToFile, Removes}
 use Rattle.uxn_opcodes.specs.declared.Core.{Core}
 use Rattle.file_ports.specs.Device.{Suits}
@@ -27,27 +29,6 @@ use Rattle.varvara_bus.specs.FileActs.{file_base, file_in, file_action, file_out
 use Rattle.varvara_bus.specs.Effect.{Effect, Footprint, footprint, memory_filled, range_meant, range_of}
 use Rattle.varvara_bus.specs.Effect.{actions, action_in, action_of, act, effect, debug_bytes}
 
--- this holds of each change
-abbrev pub Each : {A : Type 0} → (A → Type 0) → List A → Type 0
-Each P [] = Unit {0}
-Each P (first ∷ rest) = P first × Each P rest
-
-pub each-append : {A : Type 0} (P : A → Type 0) (first more : List A) → Each P first → Each P more → Each P (first ++ more)
-each-append P [] more e f = f
-each-append P (x ∷ first) more e f = (e.0, each-append P first more e.1 f)
-
-pub each-prefix : {A : Type 0} (P : A → Type 0) (first more : List A) → Each P (first ++ more) → Each P first
-each-prefix P [] more e = tt
-each-prefix P (x ∷ first) more e = (e.0, each-prefix P first more e.1)
-
-pub each-so : {A : Type 0} (P Q : A → Type 0) (xs : List A) → ((x : A) → P x → Q x) → Each P xs → Each Q xs
-each-so P Q [] so e = tt
-each-so P Q (x ∷ xs) so e = (so x e.0, each-so P Q xs so e.1)
-
-pub each-map : {A B : Type 0} (P : B → Type 0) (f : A → B) (xs : List A) → ((x : A) → P (f x)) → Each P (map f xs)
-each-map P f [] all = tt
-each-map P f (x ∷ xs) all = (all x, each-map P f xs all)
-
 -- a change that is within a footprint: of a file in the root part, of the standard output where it is touched, or of the error output
 abbrev pub IsWithin : Footprint → Option (List ℕ) → Change → Type 0
 IsWithin print root (ToOut byte) = IsTrue print.out
@@ -70,10 +51,10 @@ pub record KeepsTo (print : Footprint) (held : ℕ → ℕ) (devices : DeviceSta
   pub root : done.devices.root ≡ devices.root
   pub parent : done.devices.parent ≡ devices.parent
   pub suit : FilesSuit devices → FilesSuit done.devices
-  pub changes : FilesSuit devices → Each (IsWithin print devices.root) done.changes
+  pub changes : FilesSuit devices → AllByRecursion (IsWithin print devices.root) done.changes
 
 -- the changes of a file device are
-lies-within : (print : Footprint) (root : Option (List ℕ)) (changes : List Change) → LieIn root changes → Each (IsWithin print root) changes
+lies-within : (print : Footprint) (root : Option (List ℕ)) (changes : List Change) → LieIn root changes → AllByRecursion (IsWithin print root) changes
 lies-within print root [] lie = tt
 lies-within print root (ToOut byte ∷ changes) lie = absurd (of-tree root (ToOut byte ∷ changes) lie).0
 lies-within print root (ToErr byte ∷ changes) lie = (tt, lies-within print root changes lie.1)
@@ -182,8 +163,8 @@ implied : (a b : Bool) → (not a || b) ≡ true → b ≡ false → a ≡ false
 implied true b is none = absurd (true≢false (sym is ∙ none))
 implied false b is none = refl
 
-pub puts-nothing : (port : ℕ) → (port == 0x18) ≡ false → (footprint (action_of port)).out ≡ false
-puts-nothing port = implied _ _ (table-tells (λ port action. not (footprint action).out || port == 0x18) actions port refl refl)
+pub puts-nothing : (port : ℕ) → (port == CONSOLE_WRITE) ≡ false → (footprint (action_of port)).out ≡ false
+puts-nothing port = implied _ _ (table-tells (λ port action. not (footprint action).out || port == CONSOLE_WRITE) actions port refl refl)
 
 -- a port whose write touches memory stands behind one that only stores: the other byte of a short
 abbrev pub touches_memory : Action → Bool

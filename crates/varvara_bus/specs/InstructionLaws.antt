@@ -1,16 +1,12 @@
 -- The laws that tie an instruction over a bus to what it does to the devices and outside.
 use Rattle.std.specs.Prelude.{◌≡◌, ◌≢◌, ℕ, ◌==◌, Bool, true, false, List, [], ◌∷◌, ◌++◌, Result, Ok}
-use Rattle.std.specs.Prelude.{Err, refl}
+use Rattle.std.specs.Prelude.{None, Some, Err, refl}
 use Rattle.std.proofs.Common.{ap, sym, ◌∙◌, append_assoc, inl, inr, arith, rules}
 use Rattle.std.proofs.lemmas.Bool.Decides.{nat_tests}
 use Rattle.std.proofs.lemmas.List.{append-nil}
-use Rattle.std.specs.Option.{option_map}
-use Rattle.uxn_io_traits.specs.Outside.{Change, World, changed_by, files_by}
-use Rattle.uxn_io_traits.specs.ChangeLaws.{changed_by-append, cut-first, cut-later}
-use Rattle.uxn_io_traits.specs.ChangeLaws.{files-contents}
-use Rattle.uxn_io_traits.specs.EndedLaws.{refuses-nothing, refuses-then}
+use Rattle.uxn_io_traits.specs.Outside.{Change}
+use Rattle.uxn_io_traits.specs.EndedLaws.{done-nothing, ended-first, ended-then, refuses-nothing, refuses-then}
 use Rattle.uxn_io_traits.specs.declared.trees.Tree as trees
-use Rattle.uxn_io_traits.specs.TakingLaws.{remains-all, remains-both, not-guaranteed-first, not-guaranteed-later}
 use Rattle.uxn_opcodes.specs.declared.Core.{Core}
 use Rattle.uxn_opcodes.specs.declared.Stop.{Stop}
 use Rattle.uxn_opcodes.specs.declared.Stop.TheVariants.{NoMemory}
@@ -18,7 +14,6 @@ use Rattle.uxn_opcodes.specs.declared.Turn.{Turn}
 use Rattle.uxn_opcodes.specs.declared.Turn.TheVariants.{Ran, Broke}
 use Rattle.uxn_opcodes.specs.declared.rows.Access.{Access}
 use Rattle.uxn_opcodes.specs.declared.rows.Access.TheVariants.{Nothing, Read, Write}
-use Rattle.uxn_opcodes.specs.Ports.{result_blame}
 use Rattle.uxn_opcodes.specs.Rule.{opcode_at, begun}
 use Rattle.uxn_opcodes.specs.Instruction.{Written, WriteStops, writes_of, writes_in, FinishesAccess, Instruction}
 use Rattle.uxn_opcodes.specs.Model.{Machine, after_instruction, access_done, written_by}
@@ -115,43 +110,6 @@ same-again of_tree a b c p q = record {
 }
 
 module _ {T O E : Type 0} (meaning : BusModel T O E) where
-  -- no changes were made
-  pub makes-none : (bus : Bus T O E) → Makes meaning bus bus []
-  makes-none bus = record { world = refl; remains = remains-all (outside_on meaning bus).guaranteed (meaning.tree.state bus.tree.now).contents }
-
-  -- the known contents of the tree once changes were made
-  contents-now : (before now : Bus T O E) (changes : List Change) → Makes meaning before now changes
-      → (contents_on meaning.tree) now.tree.now ≡ option_map (λ nodes. files_by nodes changes) (meaning.tree.state before.tree.now).contents
-  contents-now before now changes makes = ap (λ (w : World). w.files) makes.world ∙ files-contents (outside_on meaning before).world changes
-
-  -- some, and then more
-  pub makes-both : (before middle now : Bus T O E) (first more : List Change) → Makes meaning before middle first
-      → Makes meaning middle now more → Makes meaning before now (first ++ more)
-  makes-both before middle now first more p q = record {
-    world = q.world ∙ ap (λ w. changed_by w more) p.world ∙ sym (changed_by-append (outside_on meaning before).world first more);
-    remains = remains-both (outside_on meaning before).guaranteed (outside_on meaning middle).guaranteed (outside_on meaning now).guaranteed
-        (meaning.tree.state before.tree.now).contents first more p.remains (rw (contents-now before middle first p) at q.remains);
-  }
-
-  -- a prefix of them, or all of them and then a prefix of more
-  pub stops-first : (before now : Bus T O E) (stop : Stop) (first more : List Change) → StopsShort meaning before now stop first
-      → StopsShort meaning before now stop (first ++ more)
-  stops-first before now stop first more short = record {
-    cut = cut-first (outside_on meaning before).world (outside_on meaning now).world first more short.cut;
-    not_guaranteed = not-guaranteed-first (result_blame {T = Unit {0}} (Err stop)) (outside_on meaning before).guaranteed
-        (meaning.tree.state before.tree.now).contents
-        first more short.not_guaranteed;
-  }
-
-  pub stops-later : (before middle now : Bus T O E) (stop : Stop) (first more : List Change) → Makes meaning before middle first
-      → StopsShort meaning middle now stop more → StopsShort meaning before now stop (first ++ more)
-  stops-later before middle now stop first more p short = record {
-    cut = cut-later (outside_on meaning before).world (outside_on meaning middle).world (outside_on meaning now).world first more p.world short.cut;
-    not_guaranteed = not-guaranteed-later (result_blame {T = Unit {0}} (Err stop)) (outside_on meaning before).guaranteed
-        (outside_on meaning middle).guaranteed
-        (meaning.tree.state before.tree.now).contents first more p.remains (rw (contents-now before middle first p) at short.not_guaranteed);
-  }
-
   -- a bus stands to act from what it represents, and then it represents what is left
   stands-to : (asks : Bool) (bus : Bus T O E) (state : DeviceState) → BusRepresents (contents_on meaning.tree) bus state
       → RepresentsTo meaning asks bus state
@@ -195,14 +153,14 @@ module _ {T O E : Type 0} (meaning : BusModel T O E) where
           same_core = done.core;
           same_ports = record {
             devices = done.devices;
-            makes = makes-both start now after so_far.changes (effect so_far.devices core port byte).changes stands.makes done.makes;
+            makes = ended-then so_far.changes (effect so_far.devices core port byte).changes None _ _ _ stands.makes done.makes;
           };
         };
   }
 
   pub starts : (start : Bus T O E) (devices : DeviceState) → BusRepresents (contents_on meaning.tree) start devices
       → RepresentsSince start start (no_changes devices)
-  starts start devices stands = record { devices = stands; makes = makes-none start }
+  starts start devices stands = record { devices = stands; makes = done-nothing (outside_on meaning start) }
 
   carried : (before : Bus T O E) (core core_new : Core) (now : Bus T O E) (turn : Turn) (devices : DeviceState)
       → BusRepresents (contents_on meaning.tree) before devices
@@ -239,10 +197,10 @@ module _ {T O E : Type 0} (meaning : BusModel T O E) where
   stopped-at before now core core_new stop devices other at =
       let later = changes-then devices core at.before at.after at.port at.byte other at.in_order in
       rw later.parts
-      (stops-first before now stop (changes_with devices core at.before at.port at.byte) later.more
-      (stops-later before at.ports now stop (reached_by devices core at.before).ports.changes
+      (ended-first (changes_with devices core at.before at.port at.byte) later.more _ _ _
+      (ended-then (reached_by devices core at.before).ports.changes
       (effect (reached_by devices core at.before).ports.devices (reached_by devices core at.before).core at.port at.byte).changes
-      at.same_ports.makes
+      (Some _) _ _ _ at.same_ports.makes
       (at.stops.cut (reached_by devices core at.before).ports.devices
       (stands-to (asks_tree (action_of at.port)) at.ports (reached_by devices core at.before).ports.devices at.same_ports.devices))))
 

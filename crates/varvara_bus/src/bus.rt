@@ -1,5 +1,7 @@
 //! The bus: what the machine's ports are.
 ghost use Rattle.std.specs.Prelude.{◌≡◌, ℕ, slice_index, ◌+◌, ◌<◌, ◌≤◌, true, false, [], ◌∷◌, map, length, Err, IsOk, OnOk, OnErr, IfErr, is_err};
+ghost use Rattle.uxn_limits.specs.declared.limits.TheConstants.{MOST_EVENTS};
+ghost use Rattle.uxn_limits.specs.declared.ports.TheConstants.{CONSOLE_READ, CONSOLE_TYPE};
 ghost use Rattle.varvara_bus.specs.State.{DeviceState, DevicesRepresent, storing, next_frame, rendered, screen_refreshed};
 ghost use Rattle.console_port.specs.Console.{event_byte};
 ghost use Rattle.screen_frame.specs.Colours.{colours_of};
@@ -132,7 +134,8 @@ impl<'a, T: Tree, O: Sink, E: Sink> Bus<'a, T, O, E> {
 
     /// Stores an event of the console: its byte in port 12 and its kind in port 17.
     pub fn give(&mut self, value: u8, kind: EventKind)
-        ensures devices { Becomes (contents_on T.Tree) (λ state. storing ((0x12, value) ∷ (0x17, event_byte kind) ∷ []) state) self.old self.new }
+        ensures devices { Becomes (contents_on T.Tree)
+            (λ state. storing ((CONSOLE_READ, value) ∷ (CONSOLE_TYPE, event_byte kind) ∷ []) state) self.old self.new }
         ensures others { ChangesDevices self.old self.new }
         ensures frames { frames_begun self.new ≡ frames_begun self.old }
     {
@@ -159,7 +162,7 @@ impl<'a, T: Tree, O: Sink, E: Sink> Bus<'a, T, O, E> {
 
     /// Counts a frame that begins.
     pub fn frame_begins(&mut self)
-        requires { frames_begun self.old < 1000000 }
+        requires { frames_begun self.old < MOST_EVENTS }
         ensures devices { Becomes (contents_on T.Tree) (λ state. next_frame state) self.old self.new }
         ensures others { ChangesDevices self.old self.new }
         ensures frames { frames_begun self.new ≡ frames_begun self.old + 1 }

@@ -1,5 +1,7 @@
 //! What the ports of the devices hold.
 ghost use Rattle.std.specs.Prelude.{◌≡◌, ℕ, Bool, ◌+◌, ◌*◌, ◌<◌, ◌==◌, if◌then◌else◌, IfOk, [], ◌∷◌, slice_index, slice_set, pos, neg_ℤ, ◌≤ℤ◌};
+ghost use Rattle.uxn_limits.specs.declared.limits.TheConstants.{LAST_SECOND, LAST_OFFSET};
+ghost use Rattle.uxn_limits.specs.declared.ports.TheConstants.{CONSOLE_READ, CONSOLE_TYPE};
 ghost use Rattle.console_port.specs.Console.{event_byte, given};
 ghost use Rattle.input_ports.specs.Page.{with_stores, stores_of, stores_after};
 ghost use Rattle.input_ports.specs.Page.{short_stores};
@@ -22,9 +24,9 @@ impl Devices {
     /// named, and no frame has begun. It takes the memory of the screen; no other call takes any.
     pub fn new(alloc: Global, root: Option<Path>, clock: Clock) -> Result<Devices, AllocError>
         requires seconds_from { pos 0 ≤ℤ clock.seconds }
-        requires seconds_to { clock.seconds ≤ℤ pos 253370000000 }
-        requires offset_from { neg_ℤ (pos 840) ≤ℤ clock.offset }
-        requires offset_to { clock.offset ≤ℤ pos 840 }
+        requires seconds_to { clock.seconds ≤ℤ pos LAST_SECOND }
+        requires offset_from { neg_ℤ (pos LAST_OFFSET) ≤ℤ clock.offset }
+        requires offset_to { clock.offset ≤ℤ pos LAST_OFFSET }
         ensures { IfOk result (λ devices. (part : Nodes) → (parent : Bool) → DevicesRepresent devices (new_state clock root part parent)) }
     {
         let screen = Screen::new(alloc)?;
@@ -81,7 +83,7 @@ pub(crate) fn store(devices: &mut Devices, port: u8, value: u8)
 pub(crate) fn give(devices: &mut Devices, value: u8, kind: EventKind)
     ensures devices { devices.new ≡ record devices.old { page = given devices.old.page value kind } }
     ensures stands { (state : DeviceState) → DevicesRepresent devices.old state
-        → DevicesRepresent devices.new (storing ((0x12, value) ∷ (0x17, event_byte kind) ∷ []) state) }
+        → DevicesRepresent devices.new (storing ((CONSOLE_READ, value) ∷ (CONSOLE_TYPE, event_byte kind) ∷ []) state) }
 {
     give_page(&mut devices.page, value, kind);
 }

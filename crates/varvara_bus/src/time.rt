@@ -1,5 +1,6 @@
 //! The moment of a machine: its clock at the start, and the frames since.
 ghost use Rattle.std.specs.Prelude.{◌≡◌, ◌+◌, ◌/◌, ◌%◌, ◌<◌, ◌≤◌, pos, neg_ℤ, ◌+ℤ◌, ◌≤ℤ◌};
+ghost use Rattle.uxn_limits.specs.declared.limits.TheConstants.{MOST_EVENTS, LAST_SECOND, LAST_OFFSET};
 ghost use Rattle.clock_port.specs.Calendar.{civil_fields};
 
 use clock_port::{CivilFields, fields};
@@ -10,9 +11,9 @@ const RATE: u32 = 60;
 /// The moment that a run begins at, and how far ahead of UTC the machine's clock is.
 #[derive(Clone, Copy, PartialEq, Eq)]
 pub struct Clock {
-    /// Seconds since 1970-01-01 00:00:00 UTC, 0 to 253,370,000,000.
+    /// Seconds since 1970-01-01 00:00:00 UTC, 0 to `LAST_SECOND`.
     pub seconds: i64,
-    /// Minutes ahead of UTC, -840 to 840.
+    /// Minutes ahead of UTC, at most `LAST_OFFSET` to either side.
     pub offset: i32,
 }
 
@@ -23,10 +24,10 @@ pub(crate) struct Time {
     pub(crate) offset: i32,
     pub(crate) frames: u32,
     ghost seconds_from: { pos 0 ≤ℤ seconds },
-    ghost seconds_to: { seconds ≤ℤ pos 253370000000 },
-    ghost offset_from: { neg_ℤ (pos 840) ≤ℤ offset },
-    ghost offset_to: { offset ≤ℤ pos 840 },
-    ghost frames_to: { frames ≤ 1000000 },
+    ghost seconds_to: { seconds ≤ℤ pos LAST_SECOND },
+    ghost offset_from: { neg_ℤ (pos LAST_OFFSET) ≤ℤ offset },
+    ghost offset_to: { offset ≤ℤ pos LAST_OFFSET },
+    ghost frames_to: { frames ≤ MOST_EVENTS },
 }
 
 impl Time {

@@ -1,15 +1,16 @@
 use Rattle.vector_loop.proofs.Common.{Bus, BusRepresents, Change, Core, DeviceState, Err, FollowsFrom, Instruction, List, Models, NoMemory, Nodes}
-use Rattle.vector_loop.proofs.Common.{Ok, Option, Page, Running, State, Stop, Trace, [], ap, arith, bus_rules, contents_on, followed_by}
-use Rattle.vector_loop.proofs.Common.{instruction, makes-none, page_in, refl, result_blame, rules, running, running_state, shown_all, stays, stored}
+use Rattle.vector_loop.proofs.Common.{None, Ok, Option, Page, Running, State, Stop, Trace, [], ap, arith, bus_rules, contents_on, followed_by}
+use Rattle.vector_loop.proofs.Common.{instruction, page_in, refl, result_blame, rules, running, running_state, shown_all, stays, stored}
 use Rattle.vector_loop.proofs.Common.{sym, ◌++◌, ◌∙◌, ◌≡◌, ◌≢◌}
 use Rattle.std.proofs.lemmas.List.{append-nil}
+use Rattle.uxn_io_traits.specs.EndedLaws.{done-nothing, ended-then}
 use Rattle.std.proofs.lemmas.List.FromFn.{get_or-map-range_with_len, length-map-range_with_len}
 use Rattle.uxn_opcodes.specs.declared.Turn.{Turn}
 use Rattle.uxn_opcodes.specs.declared.Turn.TheVariants.{Broke as Broken, Ran}
 use Rattle.uxn_opcodes.specs.Rule.{opcode_at}
 use Rattle.varvara_bus.specs.ReadsPort.{read_of}
 use Rattle.varvara_bus.specs.Bus.{BusModel, Makes, ReadsPort, StopsShort, held_page}
-use Rattle.varvara_bus.specs.InstructionLaws.{instruction-done, makes-both}
+use Rattle.varvara_bus.specs.InstructionLaws.{instruction-done}
 use Rattle.vector_loop.specs.State.{counting_instruction}
 use Rattle.vector_loop.specs.Watch.{IsPage, ports_read, ports_stored}
 use Rattle.vector_loop.specs.Follows.{Follows}
@@ -45,7 +46,7 @@ module _ {T O E W H : Type 0} (models : Models T O E W H) where
   -- nothing is done yet
   pub follows-nothing : (now : Running T O E W) (devices : DeviceState) → BusRepresents (contents_on models.meaning.tree) now.bus devices
       → Follows models now now (stays (running_state now devices))
-  follows-nothing now devices stands = search (rules, makes-none)
+  follows-nothing now devices stands = search (rules, done-nothing)
 
   -- the state that was reached is that of the machine
   pub reached : (before middle : Running T O E W) (first : Trace) → Follows models before middle first
@@ -59,7 +60,7 @@ module _ {T O E W H : Type 0} (models : Models T O E W H) where
     core = then.core;
     devices = then.devices;
     tally = then.tally;
-    makes = makes-both models.meaning before.bus middle.bus now.bus first.changes second.changes one.makes then.makes;
+    makes = ended-then first.changes second.changes None _ _ _ one.makes then.makes;
     changes = changes-append first.moments second.moments first.changes second.changes one.changes then.changes;
     watcher = then.watcher ∙ ap (λ h. shown_all models.shown h second.moments) one.watcher
         ∙ sym (shown_all-append models.shown (models.held before.watcher) first.moments second.moments);

@@ -17,7 +17,7 @@ pub use Rattle.uxn_opcodes.specs.declared.Stop.{Stop}
 pub use Rattle.uxn_opcodes.specs.declared.Stop.TheVariants.{NoMemory}
 pub use Rattle.varvara_bus.specs.Bus.{BusRepresents, IsOutside, SameBus, bus_faults, bus_rules, contents_on}
 pub use Rattle.varvara_bus.specs.History.{stored}
-pub use Rattle.varvara_bus.specs.InstructionLaws.{makes-none, same-again}
+pub use Rattle.varvara_bus.specs.InstructionLaws.{same-again}
 pub use Rattle.varvara_bus.specs.State.{DeviceState, storing}
 pub use Rattle.varvara_bus.specs.declared.bus.Bus.{Bus}
 pub use Rattle.vector_loop.specs.Answers.{Answers, Count, HasTallyRoom, SameRunner, none, of_events, of_vectors}

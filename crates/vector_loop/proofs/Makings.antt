@@ -6,7 +6,7 @@ use Rattle.vector_loop.proofs.Common.{length, map, picture_bytes, picture_row_of
 use Rattle.vector_loop.proofs.Common.{same-again, take, ℕ, ◌++◌, ◌+◌, ◌-◌, ◌<◌, ◌∙◌, ◌∷◌, ◌≡◌, ◌≢◌, ◌≤◌}
 use Rattle.std.proofs.lemmas.List.{map-append}
 use Rattle.std.specs.Prelude.{OnErr, OnOk}
-use Rattle.uxn_io_traits.specs.Ended.{Done, Ended, RefusesNone}
+use Rattle.uxn_io_traits.specs.Ended.{Ended, RefusesNone}
 use Rattle.uxn_io_traits.specs.EndedLaws.{done-nothing, ended-first, ended-then, refuses-nothing}
 use Rattle.uxn_io_traits.specs.State.{Outside}
 use Rattle.uxn_io_traits.specs.Outside.{ToFile}
@@ -79,11 +79,8 @@ some-put = grind (arith, common_steps)
 
 module _ {T O E : Type 0} (meaning : BusModel T O E) where
   -- where nothing but what the devices represent changes nothing is made
-  done-still : (before now : Bus T O E) → ChangesDevices before now → Done [] (outside_on meaning before) (outside_on meaning now)
-  done-still before now others = rw (others.tree, others.out, others.err) (done-nothing (outside_on meaning before))
-
   pub makes-nothing : (before now : Bus T O E) → ChangesDevices before now → Makes meaning before now []
-  makes-nothing before now others = let done = done-still before now others in record { world = done.world; remains = done.remains }
+  makes-nothing before now others = rw (others.tree, others.out, others.err) (done-nothing (outside_on meaning before))
 
   -- what the bus answered for a piece, with the stop that it names
   ended-ledger : (changes : List Change) (r : Result (Unit {0}) Stop) (before now : Outside) → Ended changes (blame_for r) before now

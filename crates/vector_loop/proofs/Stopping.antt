@@ -1,11 +1,12 @@
 -- Where a run stopped, of its parts one after the other.
 use Rattle.vector_loop.proofs.Common.{Bus, BusRepresents, Core, DeviceState, Err, Instruction, IsOutside, List, MadeOrCut, Models, NoMemory, Option}
 use Rattle.vector_loop.proofs.Common.{Running, State, Stop, Tally, Trace, [], ap, appended_to, bus_rules, contents_on, followed_by, inl, inr, arith}
-use Rattle.vector_loop.proofs.Common.{instruction, makes, makes-none, page_in, refl, running, running_state, stays, sym, ℕ, ◌∙◌, ◌≡◌, rules}
+use Rattle.vector_loop.proofs.Common.{instruction, makes, page_in, refl, running, running_state, stays, sym, ℕ, ◌∙◌, ◌≡◌, rules}
 use Rattle.std.proofs.Common.{◌⊎◌}
 use Rattle.std.proofs.lemmas.List.{append-nil}
-use Rattle.std.specs.Prelude.{IfSome}
-use Rattle.varvara_bus.specs.InstructionLaws.{instruction-cut, stops-first, stops-later}
+use Rattle.std.specs.Prelude.{IfSome, Some}
+use Rattle.uxn_io_traits.specs.EndedLaws.{done-nothing, ended-first, ended-then}
+use Rattle.varvara_bus.specs.InstructionLaws.{instruction-cut}
 use Rattle.varvara_bus.specs.Folders.{instruction-names}
 use Rattle.vector_loop.specs.TraceLaws.{followed_by-again, followed_by-at, stays-after}
 use Rattle.vector_loop.specs.Folders.{names-first, takes-later}
@@ -120,7 +121,7 @@ module _ {T O E W H : Type 0} (models : Models T O E W H) where
           some = cut.some devices stands;
           outside = outside;
           fault = the-stop (Err stop) stop refl cut.fault;
-          made = let short = cut.made devices stands in record { cut = short.cut; not_guaranteed = short.not_guaranteed };
+          made = cut.made devices stands;
           core = core;
           devices = cut.devices devices stands;
           tally = tally;
@@ -132,7 +133,7 @@ module _ {T O E W H : Type 0} (models : Models T O E W H) where
   falls-instruction : (here now : Running T O E W) (stop : Stop) (state : State)
       → WatcherRefused models here now stop ⊎ InstructionStopped models here now stop state
       → FallsShort models here now stop (instruction state)
-  falls-instruction here now stop state (inl refused) = search (arith, rules, makes-none, stops-here)
+  falls-instruction here now stop state (inl refused) = search (arith, rules, done-nothing, stops-here)
   falls-instruction here now stop state (inr stopped) = record {
     made = stopped.made;
     names = λ wanted. inr (record { before = []; moment = state; after = []; in_order = refl; takes = stopped.names wanted });
@@ -149,9 +150,8 @@ module _ {T O E W H : Type 0} (models : Models T O E W H) where
       let falls = falls-at within.here now stop within.done.last within.step within.stopped in
       let rest : State → Trace = λ s. followed_by within.step within.later in
       rw within.parts (record {
-        made = stops-later models.meaning before.bus within.here.bus now.bus stop within.done.changes (rest within.done.last).changes
-            within.follows.makes
-            (stops-first models.meaning within.here.bus now.bus stop within.step.changes (within.later within.step.last).changes falls.made);
+        made = ended-then within.done.changes (rest within.done.last).changes (Some _) _ _ _ within.follows.makes
+            (ended-first within.step.changes (within.later within.step.last).changes _ _ _ falls.made);
         names = λ wanted. or-else (λ takes. takes-later within.done rest (names-first within.step within.later takes)) (falls.names wanted);
       })
 

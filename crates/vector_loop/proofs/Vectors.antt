@@ -1,14 +1,16 @@
 -- The instructions of a vector, one after the other.
 use Rattle.vector_loop.proofs.Common.{Bus, Core, Err, Instruction, Ledger, Models, NoMemory, Ok, Result, Running, State, Stop, Tally, Trace, ap}
 use Rattle.vector_loop.proofs.Common.{arith, bus_faults, bus_rules, false, followed_by, inl, inr, instruction, ledger-same, ledger-then, rules}
-use Rattle.vector_loop.proofs.Common.{makes-none, refl, result_blame, running, running_state, same-again, stays, suc, sym, true, vector, ℕ, ◌+◌}
+use Rattle.vector_loop.proofs.Common.{refl, result_blame, running, running_state, same-again, stays, suc, sym, true, vector, ℕ, ◌+◌}
 use Rattle.vector_loop.proofs.Common.{◌∙◌, ◌≡◌}
 use Rattle.std.proofs.Common.{subst, zero}
 use Rattle.std.proofs.lemmas.Bool.{cases_Bool}
 use Rattle.std.specs.Prelude.{IfOk}
+use Rattle.uxn_io_traits.specs.EndedLaws.{done-nothing}
 use Rattle.uxn_io_traits.specs.Faults.{Nobody}
 use Rattle.uxn_opcodes.specs.declared.Turn.TheVariants.{Broke as Broken, Ran}
 use Rattle.uxn_opcodes.specs.Rule.{opcode_at}
+use Rattle.varvara_bus.specs.Bus.{outside_on}
 use Rattle.varvara_bus.specs.InstructionLaws.{instruction-borrowed, instruction-fault, same-itself}
 use Rattle.vector_loop.specs.declared.tally.VectorEnd.{VectorEnd}
 use Rattle.vector_loop.specs.declared.tally.VectorEnd.TheVariants.{Broke, Cut}
@@ -171,7 +173,8 @@ module _ {T O E W H : Type 0} (models : Models T O E W H) where
             (λ s. stays (record s { tally = counting_cut s.tally })) (instructions 0) (Ok Cut)
             (λ devices stands. (left-none (running_state here devices)).whole) (record {
               from = λ devices stands.
-                  record { core = refl; devices = stands; tally = refl; makes = makes-none models.meaning here.bus; changes = tt; watcher = refl };
+                  let made = done-nothing (outside_on models.meaning here.bus) in
+                  record { core = refl; devices = stands; tally = refl; makes = made; changes = tt; watcher = refl };
             }));
         ends = λ devices stands. sym (left-none (running_state here devices)).ends;
         ledger = ledger-same (bus_faults models.meaning here.bus);
@@ -219,5 +222,6 @@ module _ {T O E W H : Type 0} (models : Models T O E W H) where
       let begun = running (record before.core { at = at }) before.bus (counting_vector before.tally) before.watcher in
       rw (← same) (reaches-then models before begun now (λ s. stays (begun_at at s)) (instructions budget) r refl (record {
         from = λ devices stands.
-            record { core = refl; devices = stands; tally = refl; makes = makes-none models.meaning before.bus; changes = tt; watcher = refl };
+            let made = done-nothing (outside_on models.meaning before.bus) in
+            record { core = refl; devices = stands; tally = refl; makes = made; changes = tt; watcher = refl };
       }) more)

@@ -1,10 +1,12 @@
 -- What holds of each change that a run makes; so at a path outside the root part a run only adds bytes to a file.
-use Rattle.std.specs.Prelude.{◌≡◌, ℕ, List, [], ◌∷◌, Option, Some, None}
-use Rattle.std.specs.Str.{bytes_eq}
-use Rattle.std.proofs.Common.{false}
-use Rattle.uxn_io_traits.specs.Outside.{Change, ToOut, ToErr, Creates, ToFile, Removes}
+use Rattle.std.specs.Prelude.{ℕ, List, Option, Some, None}
+use Rattle.std.specs.List.{AllByRecursion}
+use Rattle.uxn_io_traits.specs.AtPath.{Spares, Adds}
+use Rattle.uxn_io_traits.specs.EachLaws.{each-append, each-map, each-so}
+use Rattle.uxn_io_traits.specs.Outside.{Change, ToFile}
+use Rattle.uxn_io_traits.specs.PrefixLaws.{spares-adds}
 use Rattle.play_script.specs.Scripts.{ScriptView}
-use Rattle.varvara_bus.specs.Touching.{Spares, Each, each-append, each-map, IsSeparateFrom, instruction-spares}
+use Rattle.varvara_bus.specs.Touching.{IsSeparateFrom, instruction-spares}
 use Rattle.vector_loop.specs.declared.output.Outputs.{Outputs}
 use Rattle.vector_loop.specs.State.{State}
 use Rattle.vector_loop.specs.Trace.{Trace}
@@ -12,34 +14,18 @@ use Rattle.vector_loop.specs.Outputs.{appended_to}
 use Rattle.vector_loop.specs.Run.{run}
 use Rattle.vector_loop.specs.RunLaws.{HoldsOn, run-holds}
 
--- a change makes nothing at a path and takes nothing away there, but may add a byte to the file that is there
-abbrev pub Adds : List ℕ → Change → Type 0
-Adds path (ToOut byte) = Unit {0}
-Adds path (ToErr byte) = Unit {0}
-Adds path (Creates other) = bytes_eq path other ≡ false
-Adds path (ToFile other byte) = Unit {0}
-Adds path (Removes other) = bytes_eq path other ≡ false
-
-pub spares-adds : (path : List ℕ) (changes : List Change) → Each (Spares path) changes → Each (Adds path) changes
-spares-adds path [] spares = tt
-spares-adds path (ToOut byte ∷ changes) spares = (tt, spares-adds path changes spares.1)
-spares-adds path (ToErr byte ∷ changes) spares = (tt, spares-adds path changes spares.1)
-spares-adds path (Creates other ∷ changes) spares = (spares.0, spares-adds path changes spares.1)
-spares-adds path (ToFile other byte ∷ changes) spares = (tt, spares-adds path changes spares.1)
-spares-adds path (Removes other ∷ changes) spares = (spares.0, spares-adds path changes spares.1)
-
 -- this holds of each change of a trace, and a path stands apart still
 abbrev pub KeepsAppending : (Change → Type 0) → List ℕ → Trace → Type 0
-KeepsAppending P path trace = Each P trace.changes × IsSeparateFrom path trace.last.devices
+KeepsAppending P path trace = AllByRecursion P trace.changes × IsSeparateFrom path trace.last.devices
 
 -- what holds of each change that leaves the path alone, and of each change of an output, holds of each change of a run
-module _ (path : List ℕ) (P : Change → Type 0) (spares : (changes : List Change) → Each (Spares path) changes → Each P changes)
-    (outputs : Outputs) (frames : (bytes : List ℕ) → Each P (appended_to outputs.frames bytes))
-    (samples : (bytes : List ℕ) → Each P (appended_to outputs.samples bytes)) where
+module _ (path : List ℕ) (P : Change → Type 0) (spares : (change : Change) → Spares path change → P change)
+    (outputs : Outputs) (frames : (bytes : List ℕ) → AllByRecursion P (appended_to outputs.frames bytes))
+    (samples : (bytes : List ℕ) → AllByRecursion P (appended_to outputs.samples bytes)) where
   part-keeps : HoldsOn outputs (λ state part. IsSeparateFrom path state.devices → KeepsAppending P path part)
   part-keeps = record {
     nothing = λ state apart. (tt, apart);
-    one = λ state apart. let done = instruction-spares path state.devices state.core apart in (spares _ done.0, done.1);
+    one = λ state apart. let done = instruction-spares path state.devices state.core apart in (each-so (Spares path) P _ spares done.0, done.1);
     frames = λ bytes state apart. (frames bytes, apart);
     samples = λ bytes state apart. (samples bytes, apart);
     then = λ state first rest one more apart.
@@ -50,19 +36,19 @@ module _ (path : List ℕ) (P : Change → Type 0) (spares : (changes : List Cha
   }
 
   pub run-keeps : (budget : ℕ) (script : ScriptView) (state : State) → IsSeparateFrom path state.devices
-      → Each P (run budget outputs script state).changes
+      → AllByRecursion P (run budget outputs script state).changes
   run-keeps budget script state apart =
       (run-holds outputs (λ state part. IsSeparateFrom path state.devices → KeepsAppending P path part) part-keeps budget script state apart).0
 
 -- bytes that are appended to an output add to the file at a path, or leave it alone
-appended-adds : (path : List ℕ) (output : Option (List ℕ)) (bytes : List ℕ) → Each (Adds path) (appended_to output bytes)
+appended-adds : (path : List ℕ) (output : Option (List ℕ)) (bytes : List ℕ) → AllByRecursion (Adds path) (appended_to output bytes)
 appended-adds path None bytes = tt
 appended-adds path (Some file) bytes = each-map (Adds path) (λ byte. ToFile file byte) bytes (λ byte. tt)
 
 -- at a path outside the root part a run makes nothing and takes nothing away: it adds bytes to the file that is there, or leaves it alone
 abbrev pub AppendsOnly : Type 0
 AppendsOnly = (path : List ℕ) (budget : ℕ) (outputs : Outputs) (script : ScriptView) (state : State) → IsSeparateFrom path state.devices
-    → Each (Adds path) (run budget outputs script state).changes
+    → AllByRecursion (Adds path) (run budget outputs script state).changes
 
 pub run-adds : AppendsOnly
 run-adds path budget outputs script state apart =

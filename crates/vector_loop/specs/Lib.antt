@@ -15,7 +15,6 @@ pub mod PendingInputs
 pub mod Run
 pub mod Places
 pub mod StepLaws
-pub mod Touching
 pub mod RunLaws
 pub mod AppendingLaws
 pub mod SilenceLaws

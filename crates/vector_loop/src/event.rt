@@ -1,5 +1,6 @@
 //! Events.
 ghost use Rattle.std.specs.Prelude.{◌≡◌, ◌==◌, ◌+◌, ◌*◌, ◌^◌, ◌-◌, ◌<◌, ◌≤◌, ◌⊎◌, None, OnOk, IfErr};
+ghost use Rattle.uxn_limits.specs.declared.limits.TheConstants.{MOST_EVENTS};
 ghost use Rattle.play_script.specs.declared.script.Event.TheVariants as events;
 ghost use Rattle.uxn_io_traits.specs.Ended.{RefusesNone};
 ghost use Rattle.uxn_io_traits.specs.Faults.{Ledger};
@@ -79,7 +80,7 @@ impl<'r, 'a, T: Tree, O: Sink, E: Sink, W: Watcher> Runner<'r, 'a, T, O, E, W> {
     /// stored, unless the state is then not 0.
     pub(crate) fn give_event(&mut self, event: &Event, outputs: &Outputs) -> Result<(), Stop>
         requires outputs { HasOutputs (contents_on T.Tree) outputs.now self.old }
-        requires frames { event.now ≡ events.Frame → frames_begun self.old.bus.now < 1000000 }
+        requires frames { event.now ≡ events.Frame → frames_begun self.old.bus.now < MOST_EVENTS }
         requires room { HasTallyRoom self.old.tally self.old.budget (of_events 1) }
         ensures answers { Answers (models_of T.Tree O.Sink E.Sink W.Watcher) self.old self.new
             (give self.old.budget outputs.now event.now) (of_events 1) result }
@@ -142,7 +143,7 @@ pub fn run_event<'a, T: Tree, O: Sink, E: Sink, W: Watcher>(
     watcher: &mut W,
 ) -> Result<(), Stop>
     requires outputs { OutputsThere outputs.now bus.old.devices.now.root (T.state bus.old.tree.now).contents }
-    requires frames { event.now ≡ events.Frame → frames_begun bus.old < 1000000 }
+    requires frames { event.now ≡ events.Frame → frames_begun bus.old < MOST_EVENTS }
     requires budget { 1 ≤ budget }
     requires instructions { tally.old.instructions ≤ 2 ^ 61 }
     requires vectors { tally.old.vectors ≤ 2 ^ 61 }

@@ -1,5 +1,6 @@
 //! Whole runs.
 ghost use Rattle.std.specs.Prelude.{◌≡◌, ◌+◌, ◌≤◌, ◌⊎◌, None, OnOk, OnErr, IfOk, IfErr};
+ghost use Rattle.uxn_limits.specs.declared.limits.TheConstants.{MOST_EVENTS};
 ghost use Rattle.uxn_io_traits.specs.Ended.{RefusesNone};
 ghost use Rattle.uxn_io_traits.specs.Faults.{Ledger};
 ghost use Rattle.uxn_opcodes.specs.Ports.{result_blame};
@@ -47,7 +48,7 @@ impl<'r, 'a, T: Tree, O: Sink, E: Sink, W: Watcher> Runner<'r, 'a, T, O, E, W> {
     /// Gives one thing, unless the run is over.
     fn deliver(&mut self, pending_input: PendingInput, outputs: &Outputs) -> Result<(), Stop>
         requires outputs { HasOutputs (contents_on T.Tree) outputs.now self.old }
-        requires frames { frames_begun self.old.bus.now + (input_count pending_input).events ≤ 1000000 }
+        requires frames { frames_begun self.old.bus.now + (input_count pending_input).events ≤ MOST_EVENTS }
         requires room { HasTallyRoom self.old.tally self.old.budget (input_count pending_input) }
         ensures { Answers (models_of T.Tree O.Sink E.Sink W.Watcher) self.old self.new
             (unless_over (given self.old.budget outputs.now pending_input)) (input_count pending_input) result }
@@ -64,7 +65,7 @@ impl<'r, 'a, T: Tree, O: Sink, E: Sink, W: Watcher> Runner<'r, 'a, T, O, E, W> {
     /// Gives all that is left of a script, one thing after the other, each unless the run is over.
     fn give_all(&mut self, mut input_queue: InputQueue<'_>, outputs: &Outputs) -> Result<(), Stop>
         requires outputs { HasOutputs (contents_on T.Tree) outputs.now self.old }
-        requires frames { frames_begun self.old.bus.now + (counts_of input_queue).events ≤ 1000000 }
+        requires frames { frames_begun self.old.bus.now + (counts_of input_queue).events ≤ MOST_EVENTS }
         requires room { HasTallyRoom self.old.tally self.old.budget (counts_of input_queue) }
         ensures { Answers (models_of T.Tree O.Sink E.Sink W.Watcher) self.old self.new
             (give_each (given self.old.budget outputs.now) input_queue.entry) (counts_of input_queue.entry) result }
@@ -78,7 +79,7 @@ impl<'r, 'a, T: Tree, O: Sink, E: Sink, W: Watcher> Runner<'r, 'a, T, O, E, W> {
     /// Runs the reset vector, and gives the arguments and the events of a script.
     fn run(&mut self, script: &Script, outputs: &Outputs) -> Result<(), Stop>
         requires outputs { HasOutputs (contents_on T.Tree) outputs.now self.old }
-        requires frames { frames_begun self.old.bus.now + (most_of script.now).events ≤ 1000000 }
+        requires frames { frames_begun self.old.bus.now + (most_of script.now).events ≤ MOST_EVENTS }
         requires room { HasTallyRoom self.old.tally self.old.budget (most_of script.now) }
         ensures { Answers (models_of T.Tree O.Sink E.Sink W.Watcher) self.old self.new
             (run self.old.budget outputs.now script.now) (most_of script.now) result }

@@ -2,7 +2,7 @@
 pub mod Changes
 unfoldable pub use Changes.*
 
--- ==== Which status a verdict has, and who is to blame for one.
+-- ==== Which verdict has a status.
 
 -- ---- the verdict on what stands in a tree of known contents
 
@@ -10,28 +10,10 @@ pub known_verdict : (nodes : Nodes) (requested : Result Task Refusal) (found : R
     → found ≡ tree_verdict nodes requested
 known_verdict nodes requested found given = sym given
 
--- ---- statuses: exit codes are at most 127, a refusal has a greater one, and none of both is that of an early end
+-- ---- the status of an outcome
 
 pub exit-small : (files : Option Nodes) (work : Work) → (outcome_of files (Ok work)).status ≤ 127
 exit-small files work = grind arith
-
-refusal-large : (refusal : Refusal) → 128 ≤ status_of refusal
-refusal-large refusal = grind arith
-
-pub refuses-no-exit : (code : ℕ) → code ≤ 127 → (refusal : Refusal) → code ≡ status_of refusal → ⊥
-refuses-no-exit code small refusal is = omega (arith, small, is, refusal-large refusal)
-
-early-number : (stop : Stop) → (136 ≤ early_status stop) × (early_status stop ≤ 138)
-early-number stop = grind arith
-
-refusal-apart : (refusal : Refusal) → (status_of refusal ≤ 135) ⊎ (139 ≤ status_of refusal)
-refusal-apart refusal = grind arith
-
-pub exit-not-early : (code : ℕ) → code ≤ 127 → IsEarly code → ⊥
-exit-not-early code small early = omega (arith, small, early.1, (early-number early.0).0)
-
-pub refusal-not-early : (refusal : Refusal) → IsEarly (status_of refusal) → ⊥
-refusal-not-early refusal early = (let one = refusal-apart refusal in omega (arith, one, early.1, early-number early.0))
 
 -- the verdicts that have a status
 module _ (files : Option Nodes) where
@@ -51,33 +33,9 @@ module _ (files : Option Nodes) where
   only_exit code small (Ok work) is = (work, refl, is)
   only_exit code small (Err refusal) is = absurd (refuses-no-exit code small refusal (sym is))
 
--- ---- who is to blame
-
-pub blame_early : (stop : Stop) → status_blame (early_status stop) ≡ stop_blame stop
-blame_early stop = grind arith
-
--- which counts rose with a status
-pub tree_rose : (before now : Counts) (status : ℕ) → Ledger before now (status_blame status) → status ≡ 136 → Rose before.tree.faults now.tree.faults
-tree_rose before now status ledger is = (let rose : AllCounted before now true false false = rw is at ledger in rose.tree.rose refl)
-
-pub sink_rose : (before now : Counts) (status : ℕ) → Ledger before now (status_blame status) → status ≡ 137
-    → Rose before.out.faults now.out.faults ⊎ Rose before.err.faults now.err.faults
-sink_rose = grind (arith, common_steps)
-
 -- ==== What the work of a command is: which files it writes; and that no refusal of it is one that the words alone decide.
 
--- ---- a step of its own
-
-then-given : {A B : Type 0} (Q : B → Type 0) (said : Result A Refusal) (next : A → Result B Refusal) → IsOfInputs (λ value. Unit {0}) said
-    → ((value : A) → IsOfInputs Q (next value)) → IsOfInputs Q (then_steps said next)
-then-given Q (Ok value) next given more = more value
-then-given Q (Err refusal) next given more = given
-
-source-given : (said : Result Sourced SourceFault) → IsOfInputs (λ value. Unit {0}) (result_as Faulty said)
-source-given said = grind arith
-
-script-given : (said : Result ScriptView (ℕ × ScriptKind)) → IsOfInputs (λ value. Unit {0}) (validated_script said)
-script-given said = grind arith
+-- ---- the summary of a workload
 
 summary-given : (count : ℕ) → IsOfInputs (λ value. Unit {0}) (accepted_summary count)
 summary-given count = search (rules, then-given, source-given, script-given)
@@ -311,11 +269,6 @@ module _ {B : Type 0} (view : B → Plan) (task : Task) (start here : TreeState)
 
 -- ---- bytes that are put on the standard output
 
--- a prefix was made that is not whole
-record IsCutShortly (changes : List Change) (blame : Blame) (before now : Outside) : Type 0 where
-  short : CutShort changes blame before now
-  some : short.cut.rest ≢ []
-
 module _ (task : Task) (tree : TreeState) (out now err : SinkState) (plan : Plan) (accepted : IsPlanned tree.contents task plan) (bytes : List ℕ)
     (code : ℕ) where
   abbrev work : Result Work Refusal
@@ -339,11 +292,9 @@ module _ (task : Task) (tree : TreeState) (out now err : SinkState) (plan : Plan
           does-all (Ok task) _ _ work given answer (puts.1 ∙ sym (ap (λ (o : Outcome). o.status) is)) (rw is done.world) done.ledger
           (λ any. inl (λ exact. refl))
       go (Err (Stopped SinkFault)) puts =
-          let short = outside-of-out bytes true tree out now err puts in
-          let text = print-cut tree.contents out.contents err.contents now.contents bytes puts.holds in
-          let both : IsCutShortly (outcome_of tree.contents work).changes ASink (outside tree out err) (outside tree now err) =
-          rw is (record { short = record { cut = text.cut; ledger = short.ledger; not_guaranteed = short.not_guaranteed }; some = text.short }) in
-          does-prefix (Ok task) _ _ work given SinkFault both.short (may _ both.some) (λ any. inl (λ exact. refl))
+          let both : (short : CutShort (outcome_of tree.contents work).changes ASink (outside tree out err) (outside tree now err))
+          × (short.cut.rest ≢ []) = rw is (short-of-out bytes tree out now err puts) in
+          does-prefix (Ok task) _ _ work given SinkFault both.0 (may _ both.1) (λ any. inl (λ exact. refl))
       go (Err (Stopped NoMemory)) puts = rw puts (does-nothing (Ok task) (host_state tree out err))
       go (Err (Stopped TreeFault)) puts = absurd puts
       go (Err (Refused refusal)) puts = absurd puts
@@ -416,16 +367,17 @@ module _ (requested : Result Task Refusal) (before : HostState) (files : TreeSta
       (done.world ∙ ap (λ w. changed_by w (to_err (refusal_line refusal))) does.performs.same)
       (ledger-then _ _ _ Nobody does.ledger done.ledger) (counts-line requested before files err refusal now (Ok status) does.refusals does.kept puts)
   refusal-does (Err SinkFault) puts =
-      let text = subst (λ w. IsCutText w (world files.contents out.contents now.contents) (to_err (refusal_line refusal))) does.performs.same
-      (line-cut files.contents out.contents err.contents now.contents (refusal_line refusal) puts.holds) in
       let line = refusal_line refusal in
+      let short = short-of-err line files out err now puts in
+      let cut : (cut : IsCutOff (observed_outside before).world (outside files out now).world (to_err line)) × (cut.rest ≢ []) =
+      subst (λ w. (cut : IsCutOff w (outside files out now).world (to_err line)) × (cut.rest ≢ [])) does.performs.same (short.0.cut, short.1) in
       does-prefix requested before _ (Err refusal) does.performs.given SinkFault
       (record {
-        cut = text.cut;
-        ledger = ledger-then _ _ _ ASink does.ledger (outside-of-err line true files out err now puts).ledger;
+        cut = cut.0;
+        ledger = ledger-then _ _ _ ASink does.ledger short.0.ledger;
         not_guaranteed = (outside-of-err line true before.tree before.out before.err now (rw does.kept at puts)).not_guaranteed;
       })
-      (refl, text.short) (counts-line requested before files err refusal now (Err SinkFault) does.refusals does.kept puts)
+      (refl, cut.1) (counts-line requested before files err refusal now (Err SinkFault) does.refusals does.kept puts)
   refusal-does (Err NoMemory) puts = grind (arith, common_steps, does-unblamed, counts-line)
   refusal-does (Err TreeFault) puts = absurd puts
 
@@ -440,19 +392,6 @@ pub stays-if : (root file : Option (List ℕ)) (before now : Option Nodes) → F
     → IfSome file (IsFileWhereKnown now)
 stays-if root None before now f there = tt
 stays-if root (Some path) before now f there = f.stays path there.outside there.file
-
--- what a debugger held in the end has the log of the whole run
-shown-fold : (states : List State) (held : Watching) → shown_all after_moment held states ≡ fold shown_to held (map state_shown states)
-shown-fold [] held = refl
-shown-fold (state ∷ states) held = shown-fold states (shown_to held (state_shown state))
-
-module _ (keeps : KeepsTheLog) (counting : CountingLaw) (in_row : RunLaw) (task : RunTask) (machine : Machine) (is : IsMachine machine.core) where
-  pub kept-log : (debug : DebugTask) (commands : List DebugCommand) (labels : List Label) (before now : Watching)
-      → before ≡ new_watching commands labels → (root_view : RootView)
-      → WasShown after_moment after_end before (task_trace task machine root_view) now
-      → now.log ≡ log_text (debugging debug commands labels) (task_trace task machine root_view)
-  unfolding log_text
-  kept-log = grind (arith, common_steps, shown-fold, is-regular)
 
 -- ---- a run, and what is done behind it
 

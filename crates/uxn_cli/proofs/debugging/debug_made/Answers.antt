@@ -1,5 +1,7 @@
-use Rattle.uxn_cli.proofs.Clauses.Works.{requested_output, outside-of-tree, is_err, ◌≡◌, ◌∙◌, refl, rules, Err, Some, log_text, debugging}
-use Rattle.uxn_cli.proofs.Clauses.Works.{refuses-then, filled-of-tree, runs-as, runs-first, runs-then, stays-if, kept-log}
+use Rattle.uxn_cli.proofs.Clauses.Works.{requested_output, outside-of-tree, is_err, ◌≡◌, ◌∙◌, refl, ap, rules, Err, Some, log_over, first_state}
+use Rattle.uxn_cli.proofs.Clauses.Works.{RootView, Watching}
+unfoldable use Rattle.uxn_cli.proofs.Clauses.Works.{reference_trace}
+use Rattle.uxn_cli.proofs.Clauses.Works.{refuses-then, filled-of-tree, runs-as, runs-first, runs-then, stays-if}
 use Rattle.uxn_cli.proofs.debugging.debug_made.Goals as goal
 
 pub returns-in_err-end-clause-runs : goal.returns-in_err-end-clause-runs
@@ -11,14 +13,16 @@ pub write_text-requires : goal.write_text-requires
 write_text-requires g c = stays-if c.args.task.now.root (Some c.args.debug.now.log) _ _ c.in_ok-end.ensures.runs.files c.requires.log
 
 pub returns-clause-runs : goal.returns-clause-runs
+unfolding reference_trace
 returns-clause-runs g c = λ commands labels new.
-    let kept = kept-log c.the_log_is_that_of_the_run.ensures c.the_moments_of_a_run_are_counted.ensures c.the_moments_of_a_run_are_in_a_row.ensures
-    c.args.task.now c.args.machine
-    c.core_known.ensures c.args.debug.now commands labels _ _ new in
+    let keeps = c.the_log_is_that_of_the_run.ensures.runs commands labels c.args.task.now.budget _ c.args.machine.script in
+    let begun = first_state c.args.machine.core c.args.machine.script in
     rw (c.or.ensures, c.and.ensures)
-    (runs-then _ _ _ _ _ (Some c.args.debug.now.log) _ (log_text (debugging c.args.debug.now commands labels)) _ _ c.in_ok-end.end
+    (runs-then _ _ _ _ _ (Some c.args.debug.now.log) _ (log_over labels commands) _ _ c.in_ok-end.end
     (runs-as _ _ _ _ _ _ _ _ _ (λ trace. refl) (λ watched. refl) c.in_ok-end.ensures.runs)
-    (λ root_view root files. c.log.ensures ∙ kept root_view (c.in_ok-end.ensures.watcher root_view root files))
+    (λ (root_view : RootView) root files. c.log.ensures
+    ∙ ap (λ (held : Watching). held.log) (rw new at (c.in_ok-end.ensures.watcher root_view root files))
+    ∙ keeps (begun root_view) c.core_known.ensures refl)
     c.write_text.result
     (outside-of-tree _ (is_err c.write_text.result) _ _ (g.O.Sink.state c.run_made.new.host.out.now) (g.E.Sink.state c.run_made.new.host.err.now)
     (filled-of-tree (requested_output (Some c.args.debug.now.log) c.log.result.now)) c.write_text.ensures.ended))

@@ -1,23 +1,13 @@
-use Rattle.uxn_cli.proofs.Clauses.Works.Changes.Names.{◌≡◌, ◌∙◌, sym, subst, false, List, ℕ, [], ◌∷◌, refl, Option, Some, None, ap, rules, arith}
-use Rattle.uxn_cli.proofs.Clauses.Works.Changes.Names.{common_steps, extended-nothing, extended-extended, Change, ToOut, ToErr, Creates}
-use Rattle.uxn_cli.proofs.Clauses.Works.Changes.Names.{ToFile, Removes, World, changed, changed_by, extended, Trace, clock_by, no_root_view}
+use Rattle.uxn_cli.proofs.Clauses.Works.Changes.Names.{◌≡◌, sym, subst, List, ℕ, [], refl, Option, Some, None, ap, rules, arith, false}
+use Rattle.uxn_cli.proofs.Clauses.Works.Changes.Names.{common_steps, changed_by-puts, World, changed_by, Trace, clock_by, no_root_view}
 use Rattle.uxn_cli.proofs.Clauses.Works.Changes.Names.{lone_trace, DevicesRepresent, new_state, put_by}
 use Rattle.std.specs.FinMap as fin
 use Rattle.uxn_cli.proofs.generating.run_alone.Goals as goal
 
--- what changes put on the standard output
-out-put : (w : World) (changes : List Change) → (changed_by w changes).out ≡ extended w.out (put_by changes)
-out-put w [] = sym (extended-nothing w.out)
-out-put w (ToOut byte ∷ changes) = out-put (changed w (ToOut byte)) changes ∙ extended-extended w.out (byte ∷ []) (put_by changes)
-out-put w (ToErr byte ∷ changes) = out-put (changed w (ToErr byte)) changes
-out-put w (Creates path ∷ changes) = out-put (changed w (Creates path)) changes
-out-put w (ToFile path byte ∷ changes) = out-put (changed w (ToFile path byte)) changes
-out-put w (Removes path ∷ changes) = out-put (changed w (Removes path)) changes
-
 -- what its own sink took is what its run puts there
 has-console : (trace : Trace) (now before : World) (taken : List ℕ) → now ≡ changed_by before trace.changes → before.out ≡ Some []
     → now.out ≡ Some taken → taken ≡ put_by trace.changes
-has-console = grind (arith, common_steps, out-put)
+has-console = grind (arith, common_steps, changed_by-puts)
 
 pub run_machine-requires-clause-devices : goal.run_machine-requires-clause-devices
 run_machine-requires-clause-devices c =

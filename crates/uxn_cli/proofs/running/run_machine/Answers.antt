@@ -19,10 +19,9 @@ returns-clause-runs g c =
           let stands = at-start (contents_on g.T.Tree) c.new-bus.result _ _ machine.script root_view devices c.new-bus.ensures.tree_now root
           c.requires.devices files in
           let ends = c.in_ok-tally.ensures.ok.from (first_devices machine.script root_view) stands in
-          let w = ends.follows.makes.world in
-          let r = ends.follows.makes.remains in
+          let made = ends.follows.makes in
           record {
-            made = record { world = search (rules, w); ledger = search (rules, ledger); remains = search (rules, r) };
+            made = search (rules, made);
             ends = rw (c.exit_code.ensures ∙ ap exit_code_of (c.stored.ensures.stored _ ends.follows.devices.devices), ends.follows.tally) refl;
             names = tt;
           };
@@ -54,10 +53,9 @@ returns-in_err-tally-clause-runs g c =
           let stands = at-start (contents_on g.T.Tree) c.new-bus.result _ _ machine.script root_view devices c.new-bus.ensures.tree_now root
           c.requires.devices files in
           let short = c.in_err-tally.ensures.err.from (first_devices machine.script root_view) stands in
-          let cut = short.made.cut in
-          let not_guaranteed = short.made.not_guaranteed in
+          let made = short.made in
           record {
-            made = record { cut = search (rules, cut); ledger = search (rules, ledger); not_guaranteed = search (rules, not_guaranteed) };
+            made = search (rules, made);
             ends = tt;
             names = short.names;
           };

@@ -35,7 +35,7 @@ returns-clause-runs g c =
     (outside-of-tree _ (is_err c.write_text.result) _ _ (g.O.Sink.state c.run_machine.new.host.out.now)
     (g.E.Sink.state c.run_machine.new.host.err.now)
     (filled-of-tree (requested_output c.args.task.now.report (report_text version c.in_ok-end.end.exit c.in_ok-end.end.tally)))
-    (rw (c.deref.ensures.0 ∙ c.report-text.ensures version c.version-version.ensures) at c.write_text.ensures.ended)))
+    (rw (c.deref.ensures.0 ∙ rw c.version_kind-version.ensures at c.report-text.ensures) at c.write_text.ensures.ended)))
 
 pub returns-clause-watcher : goal.returns-clause-watcher
 returns-clause-watcher g c = λ root_view root files.

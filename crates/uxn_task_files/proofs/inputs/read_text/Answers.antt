@@ -4,7 +4,7 @@ use Rattle.std.specs.Prelude.{IfOk}
 use Rattle.uxn_inquiry.specs.Inquiry.{file_of}
 use Rattle.uxn_inquiry.specs.Laws.{always-answers}
 use Rattle.uxn_io_traits.specs.WholeFile.{KeepsLimit}
-use Rattle.uxn_task_files.specs.Inputs.{limit_of}
+use Rattle.uxn_task_files.specs.Inputs.{size_rule}
 use Rattle.uxn_task_files.proofs.StepLemmas.{step-stop, step-last}
 use Rattle.uxn_task_files.proofs.inputs.read_text.Goals as goal
 
@@ -18,6 +18,6 @@ returns-clause-text g c = step-last _ _ _ _ _ _ _ _ (rw c.limit.ensures at c.in_
 
 pub returns-clause-limit : goal.returns-clause-limit
 returns-clause-limit g c =
-    let limit = limit_of c.args.kind in
+    let limit = (size_rule c.args.kind).most in
     c.kind_text.ensures.limit (always-answers (λ (file : FileBytes). file) (file_of c.args.path.now limit) _ _ (λ answer. IfOk answer (KeepsLimit limit)) (Ok c.in_ok-file.file)
     (λ reply is. is) (rw c.limit.ensures at c.in_ok-file.ensures))

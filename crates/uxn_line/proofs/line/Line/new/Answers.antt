@@ -1,6 +1,5 @@
 use Rattle.uxn_line.proofs.Common.{length-map, ◌+◌, [], ◌∷◌, length, refl, sym, ap, ◌∙◌, arith, length-append, slice_get, ByteList, sink-as-it-was}
-use Rattle.uxn_line.proofs.Common.{Line, none_turned, script_at, LineRepresents, line_job}
-use Rattle.vector_loop.specs.PendingInputs.{arguments_given}
+use Rattle.uxn_line.proofs.Common.{Line, arguments_given, none_turned, script_at, LineRepresents, line_job}
 use Rattle.uxn_line.proofs.Coming.{script-is-for}
 use Rattle.uxn_line.proofs.NewLines.{new-in-line, rom-there, member-more}
 use Rattle.uxn_line.proofs.line.Line.new.Goals as goal
