@@ -15,7 +15,7 @@ from typing import IO
 from uxntools.cli import Failure
 
 # The statuses of `uxn` itself, behind those that a program can give (0 to 127).
-REFUSED = range(128, 136)
+REFUSED = (*range(128, 136), 139)
 ENDED_EARLY = range(136, 139)
 
 FAULT = re.compile(

@@ -26,8 +26,6 @@ RUN_OUTPUTS = ("--frames", "--samples", "--report")
 INPUTS = {"play": ("--script",), "debug": ("--script", "--commands", "--symbols"), "dis": ("--symbols",)}
 OUTPUTS = {"play": RUN_OUTPUTS, "debug": ("--log", *RUN_OUTPUTS), "asm": ("--out", "--symbols", "--listing")}
 SWITCHES = ("--rom",)
-# The statuses of `uxn` with which it has changed nothing.
-REFUSALS = (*program.REFUSED, 139)
 # Nothing of the system, no other process, no network, no terminal, no rights, no environment; it ends with its caller.
 BUBBLEWRAP = "--unshare-all --die-with-parent --new-session --cap-drop ALL --clearenv"
 # Where a file of the C library may lie, as `ldd` names it.
@@ -289,7 +287,7 @@ def run(words: list[str], limits: Limits, isolation: str) -> int:
             os.symlink(root[0], os.path.join(folder, root[1]))
         command = bubblewrap(uxn, folder, root) if isolated else [uxn]
         status = attached.call([*command, *words], folder, limits.apply)
-        if status not in REFUSALS:
+        if status not in program.REFUSED:
             move_outputs(folder, call)
         said = list(limits_met(status, folder, call, limits))
     for line in said:

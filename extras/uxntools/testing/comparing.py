@@ -4,7 +4,7 @@ from __future__ import annotations
 import os
 from dataclasses import dataclass
 
-from uxntools import script
+from uxntools import program, script
 from uxntools.testing.configuration import NAME
 from uxntools.testing.discovery import WANTED, Test
 from uxntools.testing.running import Result, files_beneath
@@ -12,7 +12,8 @@ from uxntools.testing.running import Result, files_beneath
 # The kinds of faults that are recorded only by name.
 REFUSAL, EARLY, CUT, MISS = "refusal", "early", "cut", "miss"
 ALLOWED = (REFUSAL, EARLY, CUT, MISS)
-REFUSED_STATUSES = {*range(128, 136), 139, 200}
+# 200 is of a launcher that could not build the program.
+REFUSED_STATUSES = {*program.REFUSED, 200}
 
 
 @dataclass(frozen=True)
