@@ -1,5 +1,6 @@
 -- Laws of the root part: what is observed in it is what is observed in the whole tree, and changes in it are changes of it.
-use Rattle.std.specs.Prelude.{◌≡◌, ℕ, Bool, true, false, not, ◌&&◌, List, [], ◌∷◌, ◌++◌, Option, Some, None, IfSome, IsTrue, codes}
+use Rattle.std.specs.Prelude.{◌≡◌, ℕ, Bool, true, false, not, ◌&&◌, List, [], ◌∷◌, ◌++◌}
+use Rattle.std.specs.Prelude.{Option, Some, None, IfSome, IsTrue, codes}
 use Rattle.std.specs.Prelude.{map as list_map, if◌then◌else◌}
 use Rattle.std.specs.List.{filter_map, cons_option}
 use Rattle.std.specs.Option.{unwrap_or, option_map, option_and_then, option_eq}
@@ -234,7 +235,8 @@ named-suits None memory at = refl
 named-suits (Some root) memory at = named_suits root (before_zero (bytes_around memory at))
 
 -- what is the same beneath a root is so after the same changes
-same-below : (root : Option (List ℕ)) (m n : Nodes) → IfSome root (λ r. (path : List ℕ) → is_in r path ≡ true → map.get m path ≡ map.get n path)
+same-below : (root : Option (List ℕ)) (m n : Nodes)
+    → IfSome root (λ r. (path : List ℕ) → is_in r path ≡ true → map.get m path ≡ map.get n path)
     → below root m ≡ below root n
 same-below None m n e = refl
 same-below (Some root) m n e = below-same root m n e

@@ -210,4 +210,5 @@ after_run held trace = after_end (shown_all after_moment held trace.moments) tra
 abbrev pub KeepsTheLogOfRuns : Type 0
 KeepsTheLogOfRuns = (commands : List DebugCommand) (labels : List Label) (budget : ℕ) (outputs : Outputs) (script : ScriptView) (state : State)
     → IsMachine state.core → state.tally.instructions ≡ 0
-    → (after_run (new_watching commands labels) (run budget outputs script state)).log ≡ log_over labels commands (run budget outputs script state)
+    → (after_run (new_watching commands labels) (run budget outputs script state)).log
+    ≡ log_over labels commands (run budget outputs script state)

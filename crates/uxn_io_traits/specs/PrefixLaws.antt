@@ -42,27 +42,24 @@ module _ (path : List ℕ) where
   added bytes (ToFile other byte ∷ changes) adds = go (bytes_eq path other) (λ first. added first changes adds.1)
     where
       go : (b : Bool) → ((first : List ℕ) → GetsMore first changes)
-          → (more : List ℕ) × (node_by path changes (cond b (Some (File (bytes ++ byte ∷ []))) (Some (File bytes))) ≡ Some (File (bytes ++ more)))
+          → (more : List ℕ)
+          × (node_by path changes (cond b (Some (File (bytes ++ byte ∷ []))) (Some (File bytes))) ≡ Some (File (bytes ++ more)))
       go false rest = rest bytes
       go true rest = let all = rest (bytes ++ byte ∷ []) in
           (byte ∷ all.0, all.1 ∙ ap (λ b. Some (File b)) (append_assoc bytes (byte ∷ []) all.0))
 
-  -- the node is as it was, or a prefix of the file that is to be there
-  abbrev IsFilePrefix : Option Node → Option Node → Option Node → Type 0
-  IsFilePrefix before now whole = (now ≡ before)
-      ⊎ ((bytes : List ℕ) × (rest : List ℕ) × (now ≡ Some (File bytes)) × (whole ≡ Some (File (bytes ++ rest))))
-
   -- a file is made among others, all of which are then added to
   module _ (later rest : List Change) (adds : AllByRecursion (Adds path) later) (before : Option Node) where
     abbrev Prefixes : Option Node → List Change → Type 0
-    Prefixes there made = IsFilePrefix before (node_by path made there) (node_by path (made ++ rest) there)
+    Prefixes there made = HoldsFilePrefix (Some before) (Some (node_by path made there)) (Some (node_by path (made ++ rest) there))
 
     made-prefix : (made : List Change) → later ≡ made ++ rest → Prefixes (Some (File [])) made
     made-prefix made parts =
         let all = each-parts (Adds path) made rest (subst (AllByRecursion (Adds path)) parts adds) in
         let first = added [] made all.0 in
         let last = added first.0 rest all.1 in
-        inr (first.0, last.0, first.1, node-append path made rest (Some (File [])) ∙ ap (node_by path rest) first.1 ∙ last.1)
+        let whole = node-append path made rest (Some (File [])) ∙ ap (node_by path rest) first.1 ∙ last.1 in
+        inr (first.0, last.0, ap (λ node. Some node) first.1, ap (λ node. Some node) whole)
 
     created : (paths : List (List ℕ)) → node_by path (creating_all paths) (Some (File [])) ≡ Some (File [])
     created [] = refl
@@ -76,16 +73,13 @@ module _ (path : List ℕ) where
         → Waits paths there → Prefixes there made
     prefix-of [] there made parts (inl waits) = absurd (let among = waits.1 in cc)
     prefix-of [] there made parts (inr is) = rw is (made-prefix made parts)
-    prefix-of (other ∷ paths) there [] parts (inl waits) = inl waits.0
+    prefix-of (other ∷ paths) there [] parts (inl waits) = inl (ap (λ node. Some node) waits.0)
     prefix-of (other ∷ paths) there [] parts (inr is) =
         let all = added [] later adds in
-        rw is (inr (
-          [],
-          all.0,
-          refl,
-          ap (λ changes. node_by path changes (Some (File []))) (sym parts)
-              ∙ node-append path (creating_all (other ∷ paths)) later (Some (File [])) ∙ ap (node_by path later) (created (other ∷ paths)) ∙ all.1,
-        ))
+        let first = node-append path (creating_all (other ∷ paths)) later (Some (File [])) in
+        let whole = ap (λ changes. node_by path changes (Some (File []))) (sym parts) ∙ first
+        ∙ ap (node_by path later) (created (other ∷ paths)) ∙ all.1 in
+        rw is (inr ([], all.0, refl, ap (λ node. Some node) whole))
     prefix-of (other ∷ paths) there (change ∷ made) parts state =
         let same : Creates other ≡ change = cc in
         let more : creating_all paths ++ later ≡ made ++ rest = cc in
@@ -104,7 +98,4 @@ file-prefix path paths later made rest before among adds parts =
     go : (there : Option (Option Node))
         → HoldsFilePrefix there (option_map (node_by path made) there) (option_map (node_by path (made ++ rest)) there)
     go None = inl refl
-    go (Some node) = elim (prefix-of path later rest adds node paths node made parts (inl (refl, among))) [
-      | inl same ↦ inl (ap (λ node. Some node) same)
-      | inr prefix ↦ inr (prefix.0, prefix.1, ap (λ node. Some node) prefix.2, ap (λ node. Some node) prefix.3)
-    ]
+    go (Some node) = prefix-of path later rest adds node paths node made parts (inl (refl, among))

@@ -138,8 +138,8 @@ begun_by (Some op) code core = row_begun op (mode_of code) core
 unfoldable pub begun : Core → Begun
 begun core = begun_by (op_of (opcode_at core)) (opcode_at core) (past_opcode core)
 
--- an instruction up to its port access: BRK has none
-unfoldable pub Begins : Core → Option Access → Core → Type 0
-Begins core None core_new = (opcode_at core ≡ 0) × (core_new ≡ past_opcode core)
-Begins core (Some access) core_new =
-    (opcode_at core ≢ 0) × ((core_new ≡ (begun core).core) × (access ≡ (begun core).access))
+-- the instruction of a code up to its port access: BRK has none
+unfoldable pub Begins : ℕ → Core → Option Access → Core → Type 0
+Begins code core None core_new = (code ≡ 0) × (core_new ≡ past_opcode core)
+Begins code core (Some access) core_new = let begun = begun_by (op_of code) code (past_opcode core) in
+    (code ≢ 0) × ((core_new ≡ begun.core) × (access ≡ begun.access))

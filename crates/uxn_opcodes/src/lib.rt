@@ -315,10 +315,9 @@ fn finish<P: Ports>(
 
 /// Runs the instruction of a code that is a constant, and so are its operation and its mode: all but its port access,
 /// which is told. BRK has none.
-#[tactic(auto, unfolding(crate::specs::Rule::begun, crate::specs::Rule::Begins))]
+#[tactic(auto, unfolding(crate::specs::Rule::Begins))]
 fn run<const CODE: u8>(core: &mut Core, at: &mut u16) -> Option<Access>
-    requires { opcode_at (moved core.old at.old) ≡ CODE }
-    ensures { Begins (moved core.old at.old) result (moved core.new at.new) }
+    ensures { Begins CODE (moved core.old at.old) result (moved core.new at.new) }
 {
     *at = at.wrapping_add(1);
     if CODE == 0 {
@@ -341,8 +340,7 @@ macro_rules! run_code {
 /// the longer the more there is in each.
 #[inline(always)]
 fn run_any(core: &mut Core, at: &mut u16, code: u8) -> Option<Access>
-    requires { opcode_at (moved core.old at.old) ≡ code }
-    ensures { Begins (moved core.old at.old) result (moved core.new at.new) }
+    ensures { Begins code (moved core.old at.old) result (moved core.new at.new) }
 {
     run_code!(code, core, at,
         0x00 0x01 0x02 0x03 0x04 0x05 0x06 0x07 0x08 0x09 0x0a 0x0b 0x0c 0x0d 0x0e 0x0f
@@ -367,7 +365,7 @@ fn run_any(core: &mut Core, at: &mut u16, code: u8) -> Option<Access>
 /// Runs the instruction at `at`, and puts the next address there: what `step` does with `core.at`. A loop that keeps `at`
 /// in a variable of its own waits for no store of it. `core.at` is what it was or the address after a port access.
 #[inline(always)]
-#[tactic(auto, unfolding(crate::specs::Instruction::Instruction, crate::specs::Rule::Begins))]
+#[tactic(auto, unfolding(crate::specs::Instruction::Instruction, crate::specs::Rule::Begins, crate::specs::Rule::begun))]
 pub fn step_from<P: Ports>(core: &mut Core, at: &mut u16, ports: &mut P) -> Result<Turn, Stop>
     ensures instruction { Instruction P.rules (moved core.old at.old) ports.old result (moved core.new at.new) ports.new }
     ensures broke { (result ≡ Ok Turn.Broke) ↔ (opcode_at (moved core.old at.old) ≡ 0) }

@@ -54,7 +54,8 @@ pub record KeepsTo (print : Footprint) (held : ℕ → ℕ) (devices : DeviceSta
   pub changes : FilesSuit devices → AllByRecursion (IsWithin print devices.root) done.changes
 
 -- the changes of a file device are
-lies-within : (print : Footprint) (root : Option (List ℕ)) (changes : List Change) → LieIn root changes → AllByRecursion (IsWithin print root) changes
+lies-within : (print : Footprint) (root : Option (List ℕ)) (changes : List Change) → LieIn root changes
+    → AllByRecursion (IsWithin print root) changes
 lies-within print root [] lie = tt
 lies-within print root (ToOut byte ∷ changes) lie = absurd (of-tree root (ToOut byte ∷ changes) lie).0
 lies-within print root (ToErr byte ∷ changes) lie = (tt, lies-within print root changes lie.1)

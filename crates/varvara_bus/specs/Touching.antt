@@ -29,7 +29,8 @@ within-spares : (path : List ℕ) (print : Footprint) (root : Option (List ℕ))
 within-spares path print root outside (ToOut byte) within = tt
 within-spares path print root outside (ToErr byte) within = tt
 within-spares path print root outside (Creates other) within = lies-elsewhere root path outside (Creates other) within
-within-spares path print root outside (ToFile other byte) within = lies-elsewhere root path outside (ToFile other byte) within
+within-spares path print root outside (ToFile other byte) within =
+    lies-elsewhere root path outside (ToFile other byte) within
 within-spares path print root outside (Removes other) within = lies-elsewhere root path outside (Removes other) within
 
 -- so do a write and an instruction, and the file devices suit the root still
