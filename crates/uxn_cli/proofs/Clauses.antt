@@ -27,7 +27,7 @@ pub outcome_usual : (files : Option Nodes) (found : Result Work Refusal) (before
 outcome_usual files found before now answer has early = outcome-not-early files found (early.0, sym has.status ∙ early.1)
 
 ended_usual : (requested : Result Task Refusal) (before now : World) (answer : ℕ) → HasDoneWork requested before now (Ok answer) → IsEarly answer → ⊥
-ended_usual = grind (arith, common_steps, outcome_usual, exit-not-early)
+ended_usual = grind (arith, outcome_usual, exit-not-early)
 
 -- a status comes exactly where a verdict has it, and after an early end no such status does
 exactly_by : (files : Option Nodes) (found : Result Work Refusal) (answer status : ℕ) (P : Type 0) → answer ≡ (outcome_of files found).status
@@ -41,13 +41,13 @@ exactly_early answer status P usual early = record { only = λ e. absurd (usual 
 module _ (status : ℕ) (tree : Option Nodes) (found : Result Work Refusal) where
   refused_by : (requested : Result Task Refusal) → Gives tree (inquiry_of requested) found → IsRefusedWith status requested
       → IsRefusedWith status found
-  refused_by (Err refusal) given refused = grind (arith, common_steps, answer-gives)
+  refused_by (Err refusal) given refused = grind (arith, answer-gives)
   refused_by (Ok task) given refused = absurd cc
 
   requested_refused : (requested : Result Task Refusal) → Gives tree (inquiry_of requested) found → status ≤ 129 → IsRefusedWith status found
       → IsRefusedWith status requested
-  requested_refused (Err refusal) given of refused = grind (arith, common_steps, answer-gives)
-  requested_refused (Ok task) given of refused = grind (arith, common_steps, found-gives)
+  requested_refused (Err refusal) given of refused = grind (arith, answer-gives)
+  requested_refused (Ok task) given of refused = grind (arith, found-gives)
 
 -- what is refused is told
 refused_known : (tree : Option Nodes) (refusal : Refusal) → HasUnknownContents tree (Err refusal) → ⊥
@@ -55,7 +55,7 @@ refused_known tree refusal unknown = grind arith
 
 refusal_by : (requested : Result Task Refusal) (before now : World) (answer : ℕ) → HasDoneWork requested before now (Ok answer) ⊎ IsEarly answer
     → IsRefusing answer → (refusal : Refusal) × HasOutcome (outcome_of before.files (Err refusal)) before now answer
-refusal_by = grind (arith, common_steps, refusal-not-early, refuses-no-exit, exit-small)
+refusal_by = grind (arith, refusal-not-early, refuses-no-exit, exit-small)
 
 module _ (c : Call) (comes : ComesOut c) where
   either_way : HasDoneWork (call_request c) c.before.world c.now.world (Ok c.status) ⊎ EndsEarly c
@@ -74,7 +74,7 @@ module _ (c : Call) (comes : ComesOut c) where
   done_known : (nodes : Nodes) → c.before.world.files ≡ Some nodes → (result : Result ℕ Stop)
       → HasDoneWork (call_request c) c.before.world c.now.world result
       → HasDone (tree_verdict nodes (call_request c)) c.before.world c.now.world result
-  done_known = grind (arith, common_steps, known_verdict)
+  done_known = grind (arith, known_verdict)
 
   -- the answer is that of the outcome, or the call ended early
   pub ends_known : (nodes : Nodes) → c.before.world.files ≡ Some nodes
@@ -124,7 +124,7 @@ module _ (c : Call) (comes : ComesOut c) where
   -- what stands in the tree decides
   exactly_known : (nodes : Nodes) → c.before.world.files ≡ Some nodes → (status : ℕ) → (IsEarly status → ⊥) → (P : Type 0)
       → ((known_outcome c nodes).status ≡ status → P) → (P → (known_outcome c nodes).status ≡ status) → IsExactly c.status status P
-  exactly_known = grind (arith, common_steps, ends_known, exactly_by, exactly_early)
+  exactly_known = grind (arith, ends_known, exactly_by, exactly_early)
 
   pub has_statuses : HasStatuses c
   has_statuses =
@@ -144,15 +144,15 @@ module _ (c : Call) (comes : ComesOut c) where
   completes : (nodes : Nodes) → c.before.world.files ≡ Some nodes → (TreeRose OutRose ErrRose : Type 0) → (c.status ≡ 136 → TreeRose)
       → (c.status ≡ 137 → OutRose ⊎ ErrRose) → (work : Work) → tree_verdict nodes (call_request c) ≡ Ok work
       → (TreeRose → ⊥) → (OutRose → ⊥) → (ErrRose → ⊥) → (c.status ≡ (outcome_of c.before.world.files (Ok work)).status) ⊎ (c.status ≡ 138)
-  completes = grind (arith, common_steps, ends_known)
+  completes = grind (arith, ends_known)
 
   -- when out of memory all is as it was, or the verdict is of a run in which it may run out
   wanting : (nodes : Nodes) → c.before.world.files ≡ Some nodes → c.status ≡ 138
       → (c.now.world ≡ c.before.world) ⊎ MayRunOut c.before.world.files (tree_verdict nodes (call_request c))
-  wanting = grind (arith, common_steps, ends_known, outcome_usual)
+  wanting = grind (arith, ends_known, outcome_usual)
 
   pub ends_early : EndsEarlyByFaults c
-  ends_early = let ledger = comes.ledger in grind (arith, common_steps, ledger, where_known, completes, tree_rose, sink_rose, wanting)
+  ends_early = let ledger = comes.ledger in grind (arith, ledger, where_known, completes, tree_rose, sink_rose, wanting)
 
   -- after an early end a prefix of the changes stands
   pub is_cut_short : IsCutShort c
@@ -174,13 +174,13 @@ answers_step requested before now (Err stop) performs = performs
 -- the status says who is to blame
 blame_as : (requested : Result Task Refusal) (before now : World) (result : Result ℕ Stop) → AnswersCall requested before now result
     → status_blame (step_status result) ≡ result_blame (as_step result)
-blame_as requested before now (Ok status) (inl done) = grind (arith, common_steps, ended_usual, blameless)
+blame_as requested before now (Ok status) (inl done) = grind (arith, ended_usual, blameless)
 blame_as requested before now (Ok status) (inr nothing) = absurd (elim nothing.1 [ inl is ↦ cc is | inr is ↦ cc is ])
 blame_as requested before now (Err stop) answers = blame_early stop
 
 pub comes_out : (words : List (List ℕ)) (before now : HostState) (result : Result ℕ Stop) → DoesWork (request words) before now (as_step result)
     → ComesOut (record { words = words; before = observed_outside before; now = observed_outside now; status = step_status result })
-comes_out = grind (arith, common_steps, answers_step, blame_as)
+comes_out = grind (arith, answers_step, blame_as)
 
 -- ==== What other paths keep.
 
@@ -306,7 +306,7 @@ module _ (files : Option Nodes) (before : World) (job : RunJob) (debugging : Deb
   done = changed_by before (running files (unwatched job))
 
   parted : shown ≡ changed_by (changed_by (changed_by before first) (running files (unwatched job))) last
-  parted = grind (arith, common_steps, log_around, changed_by-append)
+  parted = grind (arith, log_around, changed_by-append)
 
   same-outputs : HaveSameOutputs shown done
   same-outputs =
@@ -327,7 +327,7 @@ module _ (files : Option Nodes) (before : World) (job : RunJob) (debugging : Deb
   -- beneath a root that the log lies outside of
   pub same-root : (root : Option (List ℕ)) → IfSome root (λ r. (path : List ℕ) → is_in r path ≡ true → bytes_eq path debugging.task.log ≡ false)
       → option_map (below root) shown.files ≡ option_map (below root) done.files
-  same-root = grind (arith, common_steps, parts-same, same-files)
+  same-root = grind (arith, parts-same, same-files)
 
 -- all but the log is that of an outcome
 abbrev GivesButLog : RunTask → DebugTask → Outcome → World → World → ℕ → Type 0
@@ -390,7 +390,7 @@ outcome-same : (nodes other : Nodes) (found : Result Work Refusal)
     → root_view_in (Some nodes) (root_of_work found) ≡ root_view_in (Some other) (root_of_work found)
     → outcome_of (Some nodes) found ≡ outcome_of (Some other) found
 unfolding running
-outcome-same nodes other (Ok (Run job)) same = grind (arith, common_steps)
+outcome-same nodes other (Ok (Run job)) same = grind arith
 outcome-same nodes other (Ok (Write texts)) same = refl
 outcome-same nodes other (Ok (Print text)) same = refl
 outcome-same nodes other (Ok (RunLine job)) same = refl

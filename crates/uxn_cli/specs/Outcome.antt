@@ -26,11 +26,13 @@ pub record Outcome : Type 0 where
 abbrev pub reporting : Option (List ℕ) → Version → Trace → List Change
 reporting report version trace = trace.changes ++ filling_all (report_of report version trace.last)
 
--- a run: its files are made, it runs, its report is written, and then the log of a debugger
+-- once its files are made: it runs, its report is written, and then the log of a debugger
+abbrev pub run_changes : RunJob → Trace → List Change
+run_changes job trace = reporting job.task.report job.script.version trace ++ filling_all (log_texts job.debug trace)
+
+-- a run: its files are made first
 unfoldable pub running : Option Nodes → RunJob → List Change
-running files job =
-    creating_all (job_outputs job)
-    ++ (reporting job.task.report job.script.version (trace_of files job) ++ filling_all (log_texts job.debug (trace_of files job)))
+running files job = creating_all (job_outputs job) ++ run_changes job (trace_of files job)
 
 -- of machines in a line: the exit code of the last one's run, and what it writes to port 18
 abbrev pub line_exit : LineJob → ℕ

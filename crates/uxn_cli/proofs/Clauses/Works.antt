@@ -91,42 +91,42 @@ verdict-writes nodes task work is = found-gives (Some nodes) task (Ok work) is
 -- the files of work that is planned are the outputs of the task
 pub plan-outputs : (contents : Option Nodes) (task : Task) (plan : Plan) → IsPlanned contents task plan
     → outputs_of task ≡ written_paths (Ok plan.work)
-plan-outputs = grind (arith, common_steps, always-gives, plan-asked)
+plan-outputs = grind (arith, always-gives, plan-asked)
 
 module _ (contents : Option Nodes) (task : Task) where
   -- the inputs are refused
   pub plan-refused : (refusal : Refusal) → Gives contents (plan_of task) (Err refusal) → Gives contents (work_of task) (Err refusal)
   unfolding work_of
-  plan-refused = grind (arith, common_steps, gives-bind, gives-answer)
+  plan-refused = grind (arith, gives-bind, gives-answer)
 
   module _ (plan : Plan) (planned : IsPlanned contents task plan) where
     -- an output is
     pub outputs-refused : (refusal : Refusal) → Gives contents (free_outputs plan.included (outputs_of task)) (Err refusal)
         → Gives contents (work_of task) (Err refusal)
     unfolding work_of
-    outputs-refused = grind (arith, common_steps, gives-bind, gives-answer)
+    outputs-refused = grind (arith, gives-bind, gives-answer)
 
     -- all is accepted
     pub plan-accepted : AreFree contents plan.included (outputs_of task) → Gives contents (work_of task) (Ok plan.work)
     unfolding work_of
-    plan-accepted = grind (arith, common_steps, gives-bind, gives-answer)
+    plan-accepted = grind (arith, gives-bind, gives-answer)
 
 -- ==== Files that were refused, step by step.
 
 module _ (a b c : TreeState) (err err_now : SinkState) (looked : TreeLooked false a b) where
   at-most-after : (P : List ℕ → Type 0) → AtMostOne b c P → AtMostOne a c P
   at-most-after P (inl none) = inl (refused-then None a b c looked.refusals looked.counted.promise none)
-  at-most-after P (inr one) = grind (arith, common_steps, refused-then)
+  at-most-after P (inr one) = grind (arith, refused-then)
 
   -- it was looked at before
   pub counts-after : (requested : Result Task Refusal) (r : Result ℕ Halt) → CountsRefusals requested b c err err_now r
       → CountsRefusals requested a c err err_now r
-  counts-after = grind (arith, common_steps, at-most-after)
+  counts-after = grind (arith, at-most-after)
 
 -- a task that is refused for an output
 pub counts-refuses : (included paths : List (List ℕ)) (before now : TreeState) (refusal : Refusal) → Refuses included paths refusal before now
     → AtMostOne before now (λ path. refusal ≡ NoOutput path)
-counts-refuses = grind (arith, common_steps)
+counts-refuses = grind arith
 
 -- a program that runs beneath a root is not spoken of, where its call is not refused; without a root it makes no file
 pub counts-run : (requested : Result Task Refusal) (before now : TreeState) (err err_now : SinkState) (status : ℕ) → (IsRefusing status → ⊥)
@@ -140,8 +140,8 @@ pub counts-line : (requested : Result Task Refusal) (before : HostState) (now : 
     → AtMostOne before.tree now (λ path. refusal ≡ NoOutput path) → err ≡ before.err
     → Puts err err_now (refusal_line refusal) (status_of refusal) (as_step result)
     → CountsRefusals requested before.tree now before.err err_now (as_step result)
-counts-line requested before now err refusal err_now (Ok status) counts kept puts = grind (arith, common_steps)
-counts-line requested before now err refusal err_now (Err stop) counts kept puts = grind (arith, common_steps)
+counts-line requested before now err refusal err_now (Ok status) counts kept puts = grind arith
+counts-line requested before now err refusal err_now (Err stop) counts kept puts = grind arith
 
 -- the same of objects by other names
 pub passes-as : {T E : Type 0} (tree : T → TreeState) (sink : E → SinkState) (requested : Result Task Refusal) (before : TreeState) (now same : T)
@@ -167,11 +167,11 @@ pub does-unblamed : (requested : Result Task Refusal) (before now : HostState) (
     → Ledger (observed_outside before).faults (observed_outside now).faults Nobody
     → CountsRefusals requested before.tree now.tree before.err now.err result → OnRefused result (now.err ≡ before.err)
     → DoesWork requested before now result
-does-unblamed = grind (arith, common_steps, where_known)
+does-unblamed = grind (arith, where_known)
 
 -- memory ran out, and nothing was done
 pub does-nothing : (requested : Result Task Refusal) (now : HostState) → DoesWork requested now now (Err (Stopped NoMemory))
-does-nothing = grind (arith, common_steps, does-unblamed, ledger-same)
+does-nothing = grind (arith, does-unblamed, ledger-same)
 
 module _ (requested : Result Task Refusal) (before now : HostState) (found : Result Work Refusal)
     (given : Gives before.tree.contents (inquiry_of requested) found) where
@@ -183,7 +183,7 @@ module _ (requested : Result Task Refusal) (before now : HostState) (found : Res
       → (observed_outside now).world ≡ changed_by (observed_outside before).world (outcome_of files found).changes
       → Ledger (observed_outside before).faults (observed_outside now).faults Nobody
       → ReportsRefused requested before.tree now.tree before.err now.err code → DoesWork requested before now (Ok code)
-  does-all = grind (arith, common_steps, does-unblamed, given)
+  does-all = grind (arith, does-unblamed, given)
 
   -- a prefix of it, and whoever is to blame was not guaranteed to take it
   pub does-prefix : (stop : Stop)
@@ -213,8 +213,8 @@ OnlyLooks requested contents (Stopped stop) = stop ≡ SinkFault → ⊥
 module _ (requested : Result Task Refusal) (start now : TreeState) (out err : SinkState) where
   pub halted-looked : (halt : Halt) → OnlyLooks requested start.contents halt → TreeLooked (halted_by_tree {A = ℕ} (Err halt)) start now
       → DoesWork requested (host_state start out err) (host_state now out err) (Err halt)
-  halted-looked (Refused refusal) given looked = grind (arith, common_steps, given, does-unblamed, looked-ledger)
-  halted-looked (Stopped NoMemory) other looked = grind (arith, common_steps, does-unblamed, looked-ledger)
+  halted-looked (Refused refusal) given looked = grind (arith, given, does-unblamed, looked-ledger)
+  halted-looked (Stopped NoMemory) other looked = grind (arith, does-unblamed, looked-ledger)
   halted-looked (Stopped SinkFault) other looked = absurd (other refl)
   halted-looked (Stopped TreeFault) other looked = record {
     performs = inr (ap (λ t. world t out.contents err.contents) looked.contents, inl refl);
@@ -320,7 +320,7 @@ text-asks inquiry a b (Err halt) asks = inquires-stop _ _ inquiry _ a b halt ask
 pub does-refuse : (task : Task) (start : TreeState) (plan : Plan) → IsPlanned start.contents task plan → (now : TreeState) (out err : SinkState)
     (refusal : Refusal) → Refuses plan.included (outputs_of task) refusal start now
     → DoesWork (Ok task) (host_state start out err) (host_state now out err) (Err (Refused refusal))
-does-refuse = grind (arith, common_steps, does-unblamed, outputs-refused, counted-same, counts-refuses)
+does-refuse = grind (arith, does-unblamed, outputs-refused, counted-same, counts-refuses)
 
 -- outputs that were not all made, or not all written: by changes with which the outcome begins
 module _ (task : Task) (start now : TreeState) (out err : SinkState) (plan : Plan) (is : IsPlanned start.contents task plan) where
@@ -329,7 +329,7 @@ module _ (task : Task) (start now : TreeState) (out err : SinkState) (plan : Pla
       → EndsMaking plan.included (outputs_of task) changes start now halt
       → DoesWork (Ok task) (host_state start out err) (host_state now out err) (Err halt)
   does-halt changes more of-tree whole may (Refused refusal) refuses = does-refuse task start plan is now out err refusal refuses
-  does-halt changes more of-tree whole may (Stopped NoMemory) looked = grind (arith, common_steps, halted-looked)
+  does-halt changes more of-tree whole may (Stopped NoMemory) looked = grind (arith, halted-looked)
   does-halt changes more of-tree whole may (Stopped TreeFault) (inl looked) =
       halted-looked (Ok task) start now out err (Stopped TreeFault) (λ is. cc is) looked
   does-halt changes more of-tree whole may (Stopped TreeFault) (inr half) =
@@ -354,7 +354,7 @@ module _ (task : Task) (start now : TreeState) (out err : SinkState) (texts : Li
 -- the words were refused, and nothing was done
 pub words-does : (requested : Result Task Refusal) (now : HostState) (halt : InquiryHalt Refusal) → Says (λ (task : Task). task) requested (Err halt)
     → DoesWork requested now now (Err (halt_of_inquiry halt))
-words-does = grind (arith, common_steps, does-unblamed, gives-answer, ledger-same, does-nothing)
+words-does = grind (arith, does-unblamed, gives-answer, ledger-same, does-nothing)
 
 -- a refusal whose line was put, or was not
 module _ (requested : Result Task Refusal) (before : HostState) (files : TreeState) (out err now : SinkState) (refusal : Refusal)
@@ -378,7 +378,7 @@ module _ (requested : Result Task Refusal) (before : HostState) (files : TreeSta
         not_guaranteed = (outside-of-err line true before.tree before.out before.err now (rw does.kept at puts)).not_guaranteed;
       })
       (refl, cut.1) (counts-line requested before files err refusal now (Err SinkFault) does.refusals does.kept puts)
-  refusal-does (Err NoMemory) puts = grind (arith, common_steps, does-unblamed, counts-line)
+  refusal-does (Err NoMemory) puts = grind (arith, does-unblamed, counts-line)
   refusal-does (Err TreeFault) puts = absurd puts
 
 -- ==== What `play` and `debug` do, step by step.
@@ -423,7 +423,7 @@ module _ (root : Option (List ℕ)) (trace : RootView → Trace) (first : Trace 
   pub runs-as : (same : Trace → List Change) (wider : Type 0) (now : Outside) (result : Result RunEnd Stop) → ((t : Trace) → first t ≡ same t)
       → (watched → wider)
       → RunsFromRoot root trace first watched before now result → RunsFromRoot root trace same wider before now result
-  runs-as = grind (arith, common_steps)
+  runs-as = grind arith
 
   -- it stopped, and nothing was done behind it
   pub runs-first : (more : Trace → List Change) (now : Outside) (stop : Stop) → RunsFromRoot root trace first watched before now (Err stop)
@@ -500,15 +500,14 @@ pub does-unmade : (task : Task) (start : TreeState) (job : RunJob) (included : L
     → DoesWork (Ok task) (host_state start out err) (host_state now out err) (Err halt)
 unfolding running
 does-unmade task start job included plan now out err halt ends =
-    let trace = trace_of start.contents job in
-    let rest = reporting job.task.report job.script.version trace ++ filling_all (log_texts job.debug trace) in
+    let rest = run_changes job (trace_of start.contents job) in
     does-halt task start now out err _ plan (creating_all (outputs_of task)) rest (made-of-tree (outputs_of task))
     (ap (λ paths. creating_all paths ++ rest) (sym (plan-outputs start.contents task _ plan))) (λ left. tt) halt ends
 
 -- a run may stop: memory runs out to the debugger, or where there is a root and the run takes the names of a folder beneath it
 may-stop : (files : Option Nodes) (job : RunJob) (stop : Stop) (left : List Change) → (stop ≡ NoMemory → IsSome job.debug ⊎ IsSome job.task.root)
     → (stop ≡ NoMemory → IsSome job.debug ⊎ TraceTakesNames (trace_of files job)) → MayStop files (Ok (Run job)) stop left
-may-stop = grind (arith, common_steps)
+may-stop = grind arith
 
 -- a bus over new devices and a tree represents the start of a run
 pub at-start : {T O E : Type 0} (contents_of_tree : T → Option Nodes) (bus : Bus T O E) (devices : Devices) (tree : T) (script : ScriptView)
@@ -526,7 +525,7 @@ root_view-files : (tree made : Option Nodes) (task : Task) (out err : Option (Li
     → world made out err ≡ changed_by (world tree out err) (creating_all (outputs_of task))
     → HasFiles made (root_of task) (root_view_in tree (root_of task)).part
     (root_view_in tree (root_of task)).parent ⊎ ((tree ≡ None) × IsSome (root_of task))
-root_view-files None made task out err apart is = grind (arith, common_steps, files-contents)
+root_view-files None made task out err apart is = grind (arith, files-contents)
 root_view-files (Some nodes) made task out err apart is =
     let root = root_of task in
     let now : made ≡ Some (files_by nodes (creating_all (outputs_of task))) = ap (λ w. w.files) is
@@ -559,7 +558,7 @@ module _ (run : RunTask) (asked : Option DebugTask) (before start made : TreeSta
   outputs = plan-outputs start.contents task _ plan
 
   ready-trace : task_trace run prepared.machine ready_view ≡ trace_of start.contents ready_job
-  ready-trace = ap (reference_trace run.budget (task_settings run).outputs prepared.machine.script ready_view) of.core
+  ready-trace = ap (reference_trace _ _ prepared.machine.script ready_view) of.core
 
   abbrev IsReadyOutput : List ℕ → Type 0
   IsReadyOutput path = IsOutput run.root made.contents path
@@ -579,7 +578,7 @@ module _ (run : RunTask) (asked : Option DebugTask) (before start made : TreeSta
       (λ path among. simp (list_any-append, among)))
 
   pub ready-files : RunFiles run made.contents
-  ready-files = grind (arith, common_steps, one-of, list_any-append, or-true)
+  ready-files = grind (arith, one-of, list_any-append, or-true)
 
   -- the run, behind outputs that were made
   module _ (out err : SinkState) (now : HostState) (refuses : run.root ≡ None → RefusesNone made now.tree) where
@@ -613,8 +612,10 @@ module _ (run : RunTask) (asked : Option DebugTask) (before start made : TreeSta
     none-refused none = refused-then None start made now.tree makes.refusals makes.did.counted.promise (refuses none).none
 
     passes : (result : Result RunEnd Stop) → Went result → CountsRefusals (Ok task) start now.tree err now.err (run_answer result)
-    passes (Ok end) runs = grind (arith, common_steps, counts-run, refuses-no-exit, none-refused)
-    passes (Err stop) runs = grind (arith, common_steps, counts-run, refusal-not-early, none-refused)
+    passes (Ok end) runs =
+        counts-run (Ok task) start now.tree err now.err end.exit (λ refusing. refuses-no-exit end.exit runs.code refusing.0 refusing.1) none-refused
+    passes (Err stop) runs =
+        counts-run (Ok task) start now.tree err now.err (early_status stop) (λ refusing. refusal-not-early refusing.0 (stop, sym refusing.1)) none-refused
 
     -- where a tree tells what lies beneath the root
     does-contents : (result : Result RunEnd Stop) → Went result → Ran result → DoesWork (Ok task) (host_state start out err) now (run_answer result)
@@ -636,7 +637,7 @@ module _ (run : RunTask) (asked : Option DebugTask) (before start made : TreeSta
     performs unknown (Err stop) runs = inl (record { found = Ok (Run ready_job); given = given; has = inr (unknown, tt) })
 
     does-ready : (result : Result RunEnd Stop) → Went result → DoesWork (Ok task) (host_state start out err) now (run_answer result)
-    does-ready = grind (arith, common_steps, root_view, does-contents, ready-trace, performs, ledger-then, begun, same-blame, passes)
+    does-ready = grind (arith, root_view, does-contents, ready-trace, performs, ledger-then, begun, same-blame, passes)
 
     pub does-run : (result : Result RunEnd Stop) → Went result → DoesWork (Ok task) (host_state before out err) now (run_answer result)
     does-run result runs = does-behind (prepared_plan run) task before start out err now (run_answer result) prepared asks (does-ready result runs)

@@ -27,8 +27,7 @@ module _ (P : Change → Type 0) where
 
 -- what an outcome does once its files are made
 abbrev pub later_changes : Option Nodes → Result Work Refusal → List Change
-later_changes files (Ok (Run job)) =
-    reporting job.task.report job.script.version (trace_of files job) ++ filling_all (log_texts job.debug (trace_of files job))
+later_changes files (Ok (Run job)) = run_changes job (trace_of files job)
 later_changes files (Ok (Write texts)) = filling_all texts
 later_changes files (Ok (Print text)) = to_out text
 later_changes files (Ok (RunLine job)) = to_out (line_bytes job)
@@ -37,11 +36,11 @@ later_changes files (Err refusal) = to_err (refusal_line refusal)
 pub made-first : (files : Option Nodes) (found : Result Work Refusal)
     → (outcome_of files found).changes ≡ creating_all (written_paths found) ++ later_changes files found
 unfolding running writing
-made-first = grind (arith, common_steps)
+made-first = grind arith
 
 separate : (path : List ℕ) (script : ScriptView) (root_view : RootView) → IsOutside root_view.root path
     → IsSeparateFrom path (first_devices script root_view)
-separate = grind (arith, common_steps)
+separate = grind arith
 
 -- at a path outside the root: what holds of each change that leaves the path alone, and of each byte for an output, holds of all of it
 module _ (path : List ℕ) (P : Change → Type 0) (spares : (change : Change) → Spares path change → P change)
@@ -57,7 +56,7 @@ module _ (path : List ℕ) (P : Change → Type 0) (spares : (change : Change) �
       let first = each-parts (Fills P) _ (option_to_list task.frames) shown.0 in
       let begun = first_state (new_core job.rom) job.script (root_view_in files task.root) in
       let ran = run-keeps path P spares (wanted_outputs task.frames task.samples) (appended-keeps P task.frames first.1)
-      (appended-keeps P task.samples shown.1) task.budget job.script begun (separate path job.script (root_view_in files task.root) outside) in
+      (appended-keeps P task.samples shown.1) _ job.script begun (separate path job.script (root_view_in files task.root) outside) in
       each-append P (reporting task.report job.script.version trace) _
       (each-append P trace.changes _ ran (text-keeps P task.report _ all.1)) (log-keeps P job.debug trace first.0)
 
@@ -90,7 +89,7 @@ spared-node path nodes paths none =
 below-made : (root : List ℕ) (paths : List (List ℕ)) (nodes : Nodes)
     → ((path : List ℕ) → list_any (bytes_eq path) paths ≡ true → meets path root ≡ false)
     → below (Some root) (files_by nodes (creating_all paths)) ≡ below (Some root) nodes
-below-made = grind (arith, common_steps, below-same, spared-node, apart-outside)
+below-made = grind (arith, below-same, spared-node, apart-outside)
 
 parent-made : (root : List ℕ) (paths : List (List ℕ)) (nodes : Nodes)
     → ((path : List ℕ) → list_any (bytes_eq path) paths ≡ true → meets path root ≡ false)
@@ -107,7 +106,7 @@ pub root_view-made : (root : Option (List ℕ)) (paths : List (List ℕ)) (nodes
     → IfSome root (λ r. (path : List ℕ) → list_any (bytes_eq path) paths ≡ true → meets path r ≡ false)
     → root_view_in (Some (files_by nodes (creating_all paths))) root ≡ root_view_in (Some nodes) root
 root_view-made None paths nodes apart = refl
-root_view-made (Some root) paths nodes apart = grind (arith, common_steps, below-made, parent-made)
+root_view-made (Some root) paths nodes apart = grind (arith, below-made, parent-made)
 
 -- ==== What is said of a tree of known contents.
 

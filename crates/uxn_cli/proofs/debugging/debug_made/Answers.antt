@@ -15,7 +15,7 @@ write_text-requires g c = stays-if c.args.task.now.root (Some c.args.debug.now.l
 pub returns-clause-runs : goal.returns-clause-runs
 unfolding reference_trace
 returns-clause-runs g c = λ commands labels new.
-    let keeps = c.the_log_is_that_of_the_run.ensures.runs commands labels c.args.task.now.budget _ c.args.machine.script in
+    let keeps = c.the_log_is_that_of_the_run.ensures.runs commands labels _ _ c.args.machine.script in
     let begun = first_state c.args.machine.core c.args.machine.script in
     rw (c.or.ensures, c.and.ensures)
     (runs-then _ _ _ _ _ (Some c.args.debug.now.log) _ (log_over labels commands) _ _ c.in_ok-end.end

@@ -1,5 +1,5 @@
 use Rattle.uxn_cli.proofs.Clauses.Works.Changes.Names.{◌≡◌, sym, subst, List, ℕ, [], refl, Option, Some, None, ap, rules, arith, false}
-use Rattle.uxn_cli.proofs.Clauses.Works.Changes.Names.{common_steps, changed_by-puts, World, changed_by, Trace, clock_by, no_root_view}
+use Rattle.uxn_cli.proofs.Clauses.Works.Changes.Names.{changed_by-puts, World, changed_by, Trace, clock_by, no_root_view}
 use Rattle.uxn_cli.proofs.Clauses.Works.Changes.Names.{lone_trace, DevicesRepresent, new_state, put_by}
 use Rattle.std.specs.FinMap as fin
 use Rattle.uxn_cli.proofs.generating.run_alone.Goals as goal
@@ -7,7 +7,7 @@ use Rattle.uxn_cli.proofs.generating.run_alone.Goals as goal
 -- what its own sink took is what its run puts there
 has-console : (trace : Trace) (now before : World) (taken : List ℕ) → now ≡ changed_by before trace.changes → before.out ≡ Some []
     → now.out ≡ Some taken → taken ≡ put_by trace.changes
-has-console = grind (arith, common_steps, changed_by-puts)
+has-console = grind (arith, changed_by-puts)
 
 pub run_machine-requires-clause-devices : goal.run_machine-requires-clause-devices
 run_machine-requires-clause-devices c =

@@ -1,8 +1,8 @@
-use Rattle.uxn_cli.proofs.Clauses.Works.Changes.Names.{length-map, job_of_joined, common_steps, arith}
+use Rattle.uxn_cli.proofs.Clauses.Works.Changes.Names.{length-map, job_of_joined, arith}
 use Rattle.uxn_cli.proofs.joining.run_line.Goals as goal
 
 pub run_all-requires : goal.run_all-requires
-run_all-requires g c = grind (arith, common_steps, length-map)
+run_all-requires g c = grind (arith, length-map)
 
 pub returns-in-Ok : goal.returns-in-Ok
 returns-in-Ok g c =

@@ -1,5 +1,5 @@
 use Rattle.uxn_cli.proofs.Clauses.Works.{contents_on, ◌≡◌, ◌∙◌, refl, ap, rules, arith, Err, false, exit_code_of, first_devices, reference_trace}
-use Rattle.uxn_cli.proofs.Clauses.Works.{common_steps, at-start}
+use Rattle.uxn_cli.proofs.Clauses.Works.{at-start}
 use Rattle.std.specs.FinMap as fin
 use Rattle.uxn_cli.proofs.running.run_machine.Goals as goal
 
@@ -67,7 +67,7 @@ returns-in_err-tally-clause-runs g c =
 
 -- without a root no file was refused
 pub returns-clause-refusals : goal.returns-clause-refusals
-returns-clause-refusals g c = grind (arith, common_steps)
+returns-clause-refusals g c = grind arith
 
 pub returns-in_err-tally-clause-refusals : goal.returns-in_err-tally-clause-refusals
-returns-in_err-tally-clause-refusals g c = grind (arith, common_steps)
+returns-in_err-tally-clause-refusals g c = grind arith

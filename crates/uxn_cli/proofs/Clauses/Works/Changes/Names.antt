@@ -35,7 +35,7 @@ pub use Rattle.uxn_cli.specs.Clauses.{HasStatuses, EndsEarlyByFaults, IsCutShort
 pub use Rattle.uxn_cli.specs.Isolation.{LookSame, GivesAsOn}
 pub use Rattle.uxn_cli.specs.Joined.{LineGoesOn, job_of_joined, LineHasDone, joined_plan}
 pub use Rattle.uxn_cli.specs.Observation.{unwatched, watched, with_log, HaveSameItems, ComeToOneRun, ShowsWhatPlayDoes}
-pub use Rattle.uxn_cli.specs.Outcome.{line_exit, Outcome, outcome_of, reporting, line_bytes, written_paths, root_of_work, IsOutputOf, GivesOutcome}
+pub use Rattle.uxn_cli.specs.Outcome.{line_exit, Outcome, outcome_of, reporting, run_changes, line_bytes, written_paths, root_of_work, IsOutputOf, GivesOutcome}
 unfoldable pub use Rattle.uxn_cli.specs.Outcome.{running}
 pub use Rattle.uxn_cli.specs.Outside.{DoesWork, HostState, host_state, observed_outside}
 pub use Rattle.uxn_cli.specs.Prepared.{IsPlanned, AreNew, IsReadyRun, prepared_debugging, prepared_job, prepared_plan, printed_plan}
