@@ -122,6 +122,5 @@ pub fn summarize(alloc: Global, count: u16) -> Result<Vec<u8>, Halt<Refusal>>
     let text = source(alloc, count)?;
     let assembly = assembly_of(alloc, &text)?;
     let script = validate_script(alloc, SCRIPT)?;
-    let summary = run_workload(alloc, &text, assembly.rom(), script)?;
-    Ok(summary)
+    run_workload(alloc, &text, assembly.rom(), script).map_err(Halt::from)
 }

@@ -16,7 +16,7 @@ use Rattle.uxn_task_files.specs.Outputs.{observed_texts}
 -- a program that was loaded
 abbrev pub model_of_program : Program → Loaded
 model_of_program (Rom rom) = loaded_rom rom.list
-model_of_program (Source source) = record { rom = source.assembly.rom; labels = source.assembly.labels; included = source.paths }
+model_of_program (Source source) = record { rom = source.value.assembly.rom; labels = source.value.assembly.labels; included = source.value.paths }
 
 -- labels that a symbol file gave, and the labels of a debugger: those, else those of the source
 abbrev pub model_of_labels : Option (Vec Label) → Option (List Label)

@@ -20,7 +20,7 @@ pub enum Program {
     /// A ROM file.
     Rom(Bytes),
     /// A source without a fault, and its assembly.
-    Source(AssembledSource),
+    Source(Box<AssembledSource>),
 }
 
 impl Program {
@@ -70,6 +70,7 @@ pub fn accept_program<T: Tree>(
         Ok(Program::Rom(rom))
     } else {
         let source = accept_source(alloc, path, tree)?;
-        Ok(Program::Source(source))
+        let boxed = Box::new(alloc, source)?;
+        Ok(Program::Source(boxed))
     }
 }
