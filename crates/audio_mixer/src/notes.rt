@@ -18,7 +18,7 @@ ghost use Rattle.audio_mixer.specs.Notes.{
 const STAGE: u32 = 2940;
 
 /// What starts a note: the bytes of a voice's ports at that moment.
-#[derive(Clone, Copy, PartialEq, Eq)]
+#[derive(Clone, Copy)]
 pub struct Start {
     /// Attack, decay, sustain and release: a digit each, of 2940 samples.
     pub adsr: u16,

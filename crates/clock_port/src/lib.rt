@@ -18,7 +18,7 @@ pub const LAST_SECOND: i64 = 253_370_100_000;
 pub const LAST_OFFSET: i32 = 840;
 
 /// What the ports of the datetime device read (Varvara device reference).
-#[derive(Clone, Copy, PartialEq, Eq)]
+#[derive(Clone, Copy)]
 pub struct CivilFields {
     /// The year, as 2026.
     pub year: u16,

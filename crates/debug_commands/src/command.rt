@@ -7,7 +7,7 @@ use text_lines::LineFault;
 use thiserror::Error;
 
 /// A command of the debugger.
-#[derive(Clone, Copy, PartialEq, Eq)]
+#[derive(Clone, Copy)]
 pub enum DebugCommand {
     /// Sets a break address.
     Break(u16),
@@ -30,7 +30,7 @@ pub enum DebugCommand {
 }
 
 /// What can be wrong with a line of commands.
-#[derive(Clone, Copy, Debug, PartialEq, Eq)]
+#[derive(Clone, Copy, Debug)]
 pub enum CommandKind {
     /// The first word is no command.
     Unknown,

@@ -13,7 +13,7 @@ use text_lines::{Counts, Row, begins_with, first_word, keyword_of, number_within
 use uxn_limits::limits;
 
 /// The first word of a line that gives a command.
-#[derive(Clone, Copy, PartialEq, Eq)]
+#[derive(Clone, Copy)]
 pub(crate) enum Keyword {
     Break,
     Delete,

@@ -3,7 +3,7 @@ use std::alloc::AllocError;
 use uxn_io_traits::{Failed, NamesStop};
 
 /// Why an action stopped.
-#[derive(Clone, Copy, PartialEq, Eq)]
+#[derive(Clone, Copy)]
 pub enum FileStop {
     /// The tree failed.
     TreeFault,

@@ -10,7 +10,7 @@ use uxn_limits::ports;
 const FIRST_PLAYER: u8 = 1;
 
 /// What a player does at the controller or the mouse (Varvara device reference).
-#[derive(Clone, Copy, PartialEq, Eq)]
+#[derive(Clone, Copy)]
 pub enum Input {
     /// A key is struck; the byte is its character.
     Key(u8),

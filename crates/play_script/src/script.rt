@@ -9,7 +9,7 @@ use thiserror::Error;
 use uxn_io_traits::Bytes;
 
 /// The moment at which a script begins.
-#[derive(Clone, Copy, PartialEq, Eq)]
+#[derive(Clone, Copy)]
 pub struct Clock {
     /// Seconds since 1970-01-01 00:00:00 UTC, 0 to `LAST_SECOND`.
     pub seconds: i64,
@@ -18,7 +18,7 @@ pub struct Clock {
 }
 
 /// Which lines a script may have.
-#[derive(Clone, Copy, PartialEq, Eq)]
+#[derive(Clone, Copy)]
 pub enum Version {
     /// Version 1.
     First,
@@ -27,7 +27,7 @@ pub enum Version {
 }
 
 /// What a program is given.
-#[derive(Clone, Copy, PartialEq, Eq)]
+#[derive(Clone, Copy)]
 pub enum Event {
     /// A byte of the console's input.
     Input(u8),
@@ -136,7 +136,7 @@ impl Script {
 }
 
 /// What can be wrong with a line of a script, numbered from 1 in this order.
-#[derive(Clone, Copy, Debug, PartialEq, Eq)]
+#[derive(Clone, Copy, Debug)]
 pub enum ScriptKind {
     /// The first word is none of the script's version.
     Unknown,

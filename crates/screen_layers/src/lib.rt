@@ -33,7 +33,7 @@ const LEAST: u16 = 8;
 const GREATEST: u16 = 2047;
 
 /// Where a sprite leaves x, y and the address of its tiles.
-#[derive(Clone, Copy, PartialEq, Eq)]
+#[derive(Clone, Copy)]
 pub struct Moved {
     pub x: u16,
     pub y: u16,

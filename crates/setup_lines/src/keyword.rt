@@ -7,7 +7,7 @@ ghost use Rattle.setup_lines.specs.declared.keyword.TheConstants.{ROWS};
 use text_lines::{Counts, Row};
 
 /// The first word of a line of a setup.
-#[derive(Clone, Copy, PartialEq, Eq)]
+#[derive(Clone, Copy)]
 pub(crate) enum Keyword {
     Machine,
     Script,

@@ -10,7 +10,7 @@ use uxn_io_traits::Path;
 use uxn_limits::limits;
 
 /// So many turns of one machine, one after the other.
-#[derive(Clone, Copy, PartialEq, Eq)]
+#[derive(Clone, Copy)]
 pub struct Turns {
     /// The number of the machine, from 1.
     pub machine: u8,
@@ -100,7 +100,7 @@ impl Setup {
 }
 
 /// What can be wrong with a line of a setup, in the order in which the faults of one line count.
-#[derive(Clone, Copy, Debug, PartialEq, Eq)]
+#[derive(Clone, Copy, Debug)]
 pub enum SetupKind {
     /// The first word is none of a setup.
     Unknown,

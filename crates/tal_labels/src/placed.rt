@@ -7,7 +7,7 @@ use std::marker::Model;
 use tal_words::{Expanded, Form, Label};
 
 /// A word of the expanded list with its address.
-#[derive(Clone, Copy, PartialEq, Eq)]
+#[derive(Clone, Copy)]
 pub struct PlacedWord {
     /// The word.
     pub word: Expanded,

@@ -9,7 +9,7 @@ use thiserror::Error;
 
 /// What is wrong with an entry of a symbol file, or with the file as a whole, numbered from 1 in this
 /// order.
-#[derive(Clone, Copy, Debug, PartialEq, Eq)]
+#[derive(Clone, Copy, Debug)]
 pub enum SymbolKind {
     /// The entry has fewer than two address bytes, or no zero byte behind them.
     Torn,

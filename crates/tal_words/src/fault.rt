@@ -92,7 +92,7 @@ impl FaultKind {
 
 /// A fault: its kind, and where the faulty word begins. The offset counts from 0, line and column
 /// from 1.
-#[derive(Clone, Copy, Debug, PartialEq, Eq)]
+#[derive(Clone, Copy, Debug)]
 pub struct Fault {
     pub at: u32,
     pub line: u32,

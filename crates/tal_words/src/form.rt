@@ -10,7 +10,7 @@ use crate::opcode::op_byte;
 use crate::runes::rune_of;
 
 /// What kind of reference a word is: what stands before the target, and how the target is held.
-#[derive(Clone, Copy, PartialEq, Eq)]
+#[derive(Clone, Copy)]
 pub enum Rune {
     /// `,name`: LIT and the distance as a byte.
     LitRel,
@@ -33,7 +33,7 @@ pub enum Rune {
 }
 
 /// What a word means.
-#[derive(Clone, Copy, PartialEq, Eq)]
+#[derive(Clone, Copy)]
 pub enum Form {
     /// `|h`: the next word stands at h.
     Pad(u16),

@@ -4,7 +4,7 @@ ghost use Rattle.std.specs.Prelude.{◌≡◌};
 ghost use Rattle.tal_words.specs.Source.{bytes_at};
 
 /// A part of a source, from the byte `start` up to the byte before `end`. Offsets count from 0.
-#[derive(Clone, Copy, PartialEq, Eq)]
+#[derive(Clone, Copy)]
 pub struct Span {
     pub start: u32,
     pub end: u32,
@@ -23,7 +23,7 @@ impl Span {
 
 /// A word of the source, and the position of its first byte. Lines and columns count from 1, and a
 /// column counts bytes.
-#[derive(Clone, Copy, PartialEq, Eq)]
+#[derive(Clone, Copy)]
 pub struct Word {
     pub span: Span,
     pub line: u32,
@@ -32,7 +32,7 @@ pub struct Word {
 
 /// A word of the expanded list: its bytes, and the source word outside all macro bodies from which
 /// it came.
-#[derive(Clone, Copy, PartialEq, Eq)]
+#[derive(Clone, Copy)]
 pub struct Expanded {
     pub text: Span,
     pub origin: Word,

@@ -24,7 +24,7 @@ pub enum Counts {
 pub type Row<K> = (&'static str, Counts, K);
 
 /// What can be wrong with the words of a line.
-#[derive(Clone, Copy, PartialEq, Eq)]
+#[derive(Clone, Copy)]
 pub enum LineFault {
     /// The first word is in no row.
     Unknown,

@@ -10,7 +10,7 @@ use std::alloc::{AllocError, Global};
 use uxn_io_traits::Bytes;
 
 /// What the program is asked to do.
-#[derive(Clone, Copy, PartialEq, Eq)]
+#[derive(Clone, Copy)]
 pub enum Command {
     /// `play SRC` and the options of a run: runs a source, or a ROM file.
     Play,

@@ -17,11 +17,11 @@ use super::{Entry, Failed, Kind, NamesStop, Path, Sink, Tree};
 use std::alloc::Global;
 
 /// A sink that takes every piece and keeps none.
-#[derive(Clone, Copy, PartialEq, Eq)]
+#[derive(Clone, Copy)]
 pub struct NoSink;
 
 /// A tree in which nothing is ever there. It takes every piece and keeps none.
-#[derive(Clone, Copy, PartialEq, Eq)]
+#[derive(Clone, Copy)]
 pub struct NoTree;
 
 /// It never fails.

@@ -29,7 +29,7 @@ pub enum Kind {
 }
 
 /// What lies in a folder under a name.
-#[derive(Clone, Copy, PartialEq, Eq)]
+#[derive(Clone, Copy)]
 pub struct Entry {
     /// The name: a path of one component.
     pub name: Path,

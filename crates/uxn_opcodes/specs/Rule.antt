@@ -134,12 +134,15 @@ abbrev pub begun_by : Option Op → ℕ → Core → Begun
 begun_by None code core = record { core = immediate code core; access = Nothing }
 begun_by (Some op) code core = row_begun op (mode_of code) core
 
--- an instruction other than BRK up to its port access
+-- the instruction of a code other than BRK's up to its port access, and the one that a machine is at
+abbrev pub begun_with : ℕ → Core → Begun
+begun_with code core = begun_by (op_of code) code (past_opcode core)
+
 unfoldable pub begun : Core → Begun
-begun core = begun_by (op_of (opcode_at core)) (opcode_at core) (past_opcode core)
+begun core = begun_with (opcode_at core) core
 
 -- the instruction of a code up to its port access: BRK has none
 unfoldable pub Begins : ℕ → Core → Option Access → Core → Type 0
 Begins code core None core_new = (code ≡ 0) × (core_new ≡ past_opcode core)
-Begins code core (Some access) core_new = let begun = begun_by (op_of code) code (past_opcode core) in
-    (code ≢ 0) × ((core_new ≡ begun.core) × (access ≡ begun.access))
+Begins code core (Some access) core_new =
+    (code ≢ 0) × ((core_new ≡ (begun_with code core).core) × (access ≡ (begun_with code core).access))

@@ -9,7 +9,7 @@ use clock_port::{CivilFields, fields};
 const RATE: u32 = 60;
 
 /// The moment that a run begins at, and how far ahead of UTC the machine's clock is.
-#[derive(Clone, Copy, PartialEq, Eq)]
+#[derive(Clone, Copy)]
 pub struct Clock {
     /// Seconds since 1970-01-01 00:00:00 UTC, 0 to `LAST_SECOND`.
     pub seconds: i64,

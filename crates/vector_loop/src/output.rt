@@ -19,7 +19,7 @@ const ROW: usize = 6141;
 const SAMPLES: usize = 1470;
 
 /// The files that a run appends to.
-#[derive(Clone, Copy, PartialEq, Eq)]
+#[derive(Clone, Copy)]
 pub struct Outputs {
     /// Where pictures go.
     pub frames: Option<Path>,

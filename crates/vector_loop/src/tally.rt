@@ -1,7 +1,7 @@
 //! What is counted in a run.
 
 /// How a vector ended.
-#[derive(Clone, Copy, PartialEq, Eq)]
+#[derive(Clone, Copy)]
 pub enum VectorEnd {
     /// Its last instruction was BRK.
     Broke,
@@ -10,7 +10,7 @@ pub enum VectorEnd {
 }
 
 /// What was counted so far.
-#[derive(Clone, Copy, Default, PartialEq, Eq)]
+#[derive(Clone, Copy)]
 pub struct Tally {
     /// The instructions run.
     pub instructions: u64,

@@ -6,7 +6,7 @@ use std::alloc::AllocError;
 use uxn_opcodes::{Core, Ports};
 
 /// Where a run stands.
-#[derive(Clone, Copy, PartialEq, Eq)]
+#[derive(Clone, Copy)]
 pub struct Moment {
     /// How many instructions were run before.
     pub instructions: u64,
@@ -69,7 +69,7 @@ pub trait Watcher {
 }
 
 /// Watches nothing, holds nothing and takes no memory.
-#[derive(Clone, Copy, Default)]
+#[derive(Clone, Copy)]
 pub struct NoWatch;
 
 impl Watcher for NoWatch {

@@ -44,7 +44,7 @@ use std::marker::Model;
 use uxn_io_traits::{Bytes, Entry, Failed, Kind, NamesStop, Path, RefusedFiles, Tree};
 
 /// The calls of a tree.
-#[derive(Clone, Copy, PartialEq, Eq)]
+#[derive(Clone, Copy)]
 pub enum TreeCall {
     /// `Tree::kind`.
     Kind,
