@@ -3,7 +3,7 @@
 ghost use Rattle.std.specs.Prelude.{◌≡◌, List};
 
 use input_ports::Input;
-use std::alloc::{AllocError, AllocFailed};
+use std::alloc::AllocError;
 use std::marker::Model;
 use thiserror::Error;
 use uxn_io_traits::Bytes;
@@ -201,16 +201,6 @@ impl From<AllocError> for LineStop {
     ghost from_gives = { λ _ stop. stop ≡ NoMemory };
 
     fn from(_error: AllocError) -> LineStop {
-        LineStop::NoMemory
-    }
-}
-
-impl<T: Drop> From<AllocFailed<T>> for LineStop {
-    ghost use Rattle.play_script.specs.declared.script.LineStop.TheVariants.{NoMemory};
-
-    ghost from_gives = { λ _ stop. stop ≡ NoMemory };
-
-    fn from(_error: AllocFailed<T>) -> LineStop {
         LineStop::NoMemory
     }
 }

@@ -2,7 +2,7 @@
 
 ghost use Rattle.std.specs.Prelude.{◌≡◌};
 
-use std::alloc::{AllocError, AllocFailed};
+use std::alloc::AllocError;
 use std::marker::Model;
 use text_lines::LineFault;
 use thiserror::Error;
@@ -181,16 +181,6 @@ impl From<AllocError> for SetupStop {
     ghost from_gives = { λ _ stop. stop ≡ NoMemory };
 
     fn from(_error: AllocError) -> SetupStop {
-        SetupStop::NoMemory
-    }
-}
-
-impl<T: Drop> From<AllocFailed<T>> for SetupStop {
-    ghost use Rattle.setup_lines.specs.declared.setup.SetupStop.TheVariants.{NoMemory};
-
-    ghost from_gives = { λ _ stop. stop ≡ NoMemory };
-
-    fn from(_error: AllocFailed<T>) -> SetupStop {
         SetupStop::NoMemory
     }
 }

@@ -31,13 +31,6 @@ impl Name {
         Ok(Name { text })
     }
 
-    /// A name of the bytes that the vector holds, which are not copied.
-    pub fn from_vec(bytes: Vec<u8>) -> Name
-        ensures { result ≡ bytes.items }
-    {
-        Name { text: bytes }
-    }
-
     /// The vector of the bytes, which are not copied.
     pub fn into_vec(self) -> Vec<u8>
         ensures { result.items ≡ self }

@@ -26,15 +26,6 @@ pub trait Sink {
         ensures failed { OnErr result (SinkFailed piece.now (state self.old) (state self.new)) };
 }
 
-/// A sink that is borrowed is a sink.
-impl<S: Sink> Sink for &mut S {
-    ghost state = { λ sink. S.state sink.now };
-
-    fn put(&mut self, piece: &[u8]) -> Result<usize, Failed> {
-        Sink::put(&mut **self, piece)
-    }
-}
-
 /// Puts the whole piece. After `Failed` the sink has taken a prefix that is shorter than the piece,
 /// perhaps empty.
 pub fn put_all<S: Sink>(sink: &mut S, piece: &[u8]) -> Result<(), Failed>

@@ -112,35 +112,6 @@ pub trait Tree {
         ensures requests { Receives (Lists folder.now ∷ []) (state self.old).requests (state self.new).requests };
 }
 
-/// A tree that is borrowed is a tree.
-impl<T: Tree> Tree for &mut T {
-    ghost state = { λ tree. T.state tree.now };
-
-    fn kind(&mut self, path: &Path) -> Result<Kind, Failed> {
-        Tree::kind(&mut **self, path)
-    }
-
-    fn read(&mut self, path: &Path, from: u64, into: &mut [u8]) -> Result<usize, Failed> {
-        Tree::read(&mut **self, path, from, into)
-    }
-
-    fn create(&mut self, path: &Path) -> Result<bool, Failed> {
-        Tree::create(&mut **self, path)
-    }
-
-    fn append(&mut self, path: &Path, piece: &[u8]) -> Result<usize, Failed> {
-        Tree::append(&mut **self, path, piece)
-    }
-
-    fn remove(&mut self, path: &Path) -> Result<bool, Failed> {
-        Tree::remove(&mut **self, path)
-    }
-
-    fn names(&mut self, alloc: Global, folder: &Path) -> Result<Vec<Entry>, NamesStop> {
-        Tree::names(&mut **self, alloc, folder)
-    }
-}
-
 /// Appends the whole piece to the file at the path. After `Failed` a prefix of it was appended; it fails with no empty piece.
 pub fn append_all<T: Tree>(tree: &mut T, path: &Path, piece: &[u8]) -> Result<(), Failed>
     requires { IfSome (T.state tree.old).contents (λ nodes. IsSome (file_at nodes path.now)) }

@@ -9,7 +9,7 @@ ghost use Rattle.uxn_task_files.specs.Puts.{Puts};
 use debug_commands::CommandKind;
 use play_script::ScriptKind;
 use setup_lines::SetupKind;
-use std::alloc::{AllocError, AllocFailed, Global};
+use std::alloc::{AllocError, Global};
 use tal_assembly::SourceFault;
 use tal_symbols::SymbolKind;
 use uxn_inquiry::Halt as InquiryHalt;
@@ -60,18 +60,6 @@ impl From<AllocError> for Halt {
     ghost from_gives = { λ _ halt. halt ≡ halts.Stopped stops.NoMemory };
 
     fn from(_want: AllocError) -> Halt {
-        Halt::Stopped(Stop::NoMemory)
-    }
-}
-
-impl<T: Drop> From<AllocFailed<T>> for Halt {
-    ghost use Rattle.std.specs.Prelude.{◌≡◌};
-    ghost use Rattle.uxn_task_files.specs.declared.refusal.Halt.TheVariants as halts;
-    ghost use Rattle.uxn_opcodes.specs.declared.Stop.TheVariants as stops;
-
-    ghost from_gives = { λ _ halt. halt ≡ halts.Stopped stops.NoMemory };
-
-    fn from(_want: AllocFailed<T>) -> Halt {
         Halt::Stopped(Stop::NoMemory)
     }
 }
