@@ -13,7 +13,7 @@ use uxn_io_traits::{Bytes, Path, decimal};
 
 /// The first fault of a source: the file in which its word stands, where that is not the main source, and its place there; what
 /// is wrong, where `Words` has the fault that the text has as a source; and the word.
-#[derive(Drop)]
+#[derive(Debug, Drop)]
 pub struct SourceFault {
     pub file: Option<Path>,
     pub line: u32,

@@ -10,7 +10,7 @@ use uxn_io_traits::Path;
 use uxn_limits::limits::WORD_LIMIT;
 
 /// Where a word stands: in which file, and at which line and column of it.
-#[derive(Clone, Copy)]
+#[derive(Clone, Copy, Debug)]
 pub struct Origin {
     pub path: Path,
     pub line: u32,
@@ -18,7 +18,7 @@ pub struct Origin {
 }
 
 /// What is wrong where words of files are put together.
-#[derive(Clone, Copy, PartialEq, Eq)]
+#[derive(Clone, Copy, Debug, PartialEq, Eq)]
 pub enum IncludeKind {
     /// A file has this fault of its own words.
     Words(FaultKind),
@@ -54,7 +54,7 @@ impl IncludeKind {
 }
 
 /// A fault: where the faulty word stands, what is wrong, and the first `WORD_LIMIT` bytes of the word.
-#[derive(Drop)]
+#[derive(Debug, Drop)]
 pub struct IncludeFault {
     pub origin: Origin,
     pub kind: IncludeKind,

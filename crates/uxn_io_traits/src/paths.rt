@@ -9,7 +9,7 @@ use arrayvec::ArrayVec;
 use std::marker::Model;
 
 /// Why a text is not a path.
-#[derive(Clone, Copy, PartialEq, Eq)]
+#[derive(Clone, Copy, Debug, PartialEq, Eq)]
 pub enum PathFault {
     /// The text is empty.
     Empty,
@@ -25,7 +25,7 @@ const MOST_BYTES: usize = 255;
 const MOST_COMPONENTS: usize = 16;
 
 /// A path: 1 to 16 components, at most 255 bytes with the `/` between them. It is observed as its text.
-#[derive(Clone, Copy, PartialEq, Eq)]
+#[derive(Clone, Copy, Debug, PartialEq, Eq)]
 pub struct Path {
     bytes: [u8; 255],
     len: u8,

@@ -36,8 +36,7 @@ within-spares path print root outside (Removes other) within = lies-elsewhere ro
 -- so do a write and an instruction, and the file devices suit the root still
 effect-spares : (path : List ℕ) (devices : DeviceState) (core : Core) (port byte : ℕ) (changes : List Change) → IsSeparateFrom path devices
     → AllByRecursion (Spares path) changes
-    → AllByRecursion (Spares path) (changes ++ (effect devices core port byte).changes)
-        × IsSeparateFrom path (effect devices core port byte).devices
+    → AllByRecursion (Spares path) (changes ++ (effect devices core port byte).changes) × IsSeparateFrom path (effect devices core port byte).devices
 effect-spares path devices core port byte changes apart spares =
     let print = footprint (action_of port) in
     let keeps = effect-keeps devices core port byte in
