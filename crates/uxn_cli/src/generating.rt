@@ -1,6 +1,10 @@
 //! What `gen` does: a workload is made, run and summed up.
-ghost use Rattle.std.specs.Prelude.{◌≡◌, ◌≤◌, [], None, Ok, length, IfOk};
+ghost use Rattle.std.specs.Prelude.{◌≡◌, ◌≤◌, [], None, Ok, codes, length, IfOk};
+ghost use Rattle.uxn_limits.specs.declared.limits.TheConstants.{USUAL_BUDGET};
 ghost use Rattle.tal_rom.specs.Rom.{rom_limit};
+ghost use Rattle.uxn_arguments.specs.Values.{then_steps};
+ghost use Rattle.uxn_task_files.specs.Accepted.{validated_script};
+ghost use Rattle.uxn_line.specs.Streams.{run_of};
 ghost use Rattle.uxn_workload.specs.Summary.{summary_text};
 ghost use Rattle.uxn_cli.specs.Prepared.{AreNew};
 ghost use Rattle.uxn_cli.specs.Workload.{HasRunAlone, lone_trace, run_summary, workload_text};
@@ -83,7 +87,22 @@ fn run_alone(
     }
 }
 
-/// Runs a workload on a machine of its own, and sums it up.
+/// Runs a ROM on a machine of its own.
+fn run_rom(
+    alloc: Global,
+    rom: &[u8],
+    script: Script,
+    out: &mut GrowingSink,
+) -> Result<RunEnd, AllocError>
+    requires rom { length rom.now ≤ rom_limit }
+    requires empty { out.old.taken ≡ [] }
+    ensures { IfOk result (λ end. HasRunAlone (run_of USUAL_BUDGET rom.now script) end out.new.taken) }
+{
+    let mut machine = new_machine(alloc, None, rom, script)?;
+    run_alone(alloc, &mut machine, out)
+}
+
+/// Runs a workload, and sums it up.
 fn run_workload(
     alloc: Global,
     source: &[u8],
@@ -93,9 +112,8 @@ fn run_workload(
     requires { length rom.now ≤ rom_limit }
     ensures { IfOk result (λ text. text.items ≡ workload_text source.now rom.now script) }
 {
-    let mut machine = new_machine(alloc, None, rom, script)?;
     let mut out = GrowingSink::new(alloc);
-    let end = run_alone(alloc, &mut machine, &mut out)?;
+    let end = run_rom(alloc, rom, script, &mut out)?;
     sum_up(alloc, source, rom, &end, &out)
 }
 
@@ -114,6 +132,16 @@ fn assembly_of(alloc: Global, source: &[u8]) -> Result<Assembly, Halt<Refusal>>
     }
 }
 
+/// The summary of a workload that is assembled.
+fn summary_of(alloc: Global, source: &[u8], rom: &[u8]) -> Result<Vec<u8>, Halt<Refusal>>
+    requires { length rom.now ≤ rom_limit }
+    ensures { Says (λ text. text.items) (then_steps (validated_script (codes "frame 60")) (λ script.
+        Ok (workload_text source.now rom.now script))) result }
+{
+    let script = validate_script(alloc, SCRIPT)?;
+    run_workload(alloc, source, rom, script).map_err(Halt::from)
+}
+
 /// The summary of a workload.
 #[inline(never)]
 pub fn summarize(alloc: Global, count: u16) -> Result<Vec<u8>, Halt<Refusal>>
@@ -121,6 +149,5 @@ pub fn summarize(alloc: Global, count: u16) -> Result<Vec<u8>, Halt<Refusal>>
 {
     let text = source(alloc, count)?;
     let assembly = assembly_of(alloc, &text)?;
-    let script = validate_script(alloc, SCRIPT)?;
-    run_workload(alloc, &text, assembly.rom(), script).map_err(Halt::from)
+    summary_of(alloc, &text, assembly.rom())
 }
