@@ -81,10 +81,7 @@ fn run_alone(
         out,
         err: &mut err,
     };
-    match run_machine(machine, &settings, &mut host, &mut NoWatch) {
-        Ok(end) => Ok(end),
-        Err(_) => Err(AllocError),
-    }
+    run_machine(machine, &settings, &mut host, &mut NoWatch).or(Err(AllocError))
 }
 
 /// Runs a ROM on a machine of its own.
