@@ -32,13 +32,13 @@ abbrev pub session_debugging : Loaded → Session → Debugging
 session_debugging program session = debugging session.task session.commands.items (model_of_debug_labels program session.given)
 
 abbrev pub prepared_debugging : Prepared → Option Debugging
-prepared_debugging prepared = option_map (session_debugging (model_of_program prepared.program)) prepared.session
+prepared_debugging prepared = option_map (λ session. session_debugging (model_of_program prepared.program) session.value) prepared.session
 
 abbrev pub prepared_job : RunTask → Prepared → RunJob
 prepared_job run prepared = record {
   task = run;
   rom = (model_of_program prepared.program).rom;
-  script = prepared.machine.script;
+  script = prepared.machine.value.script;
   debug = prepared_debugging prepared;
 }
 
@@ -47,9 +47,9 @@ prepared_plan run prepared = planned (Run (prepared_job run prepared)) (model_of
 
 -- a run that is ready: its machine is new, its debugger keeps no moments yet, and its files are its outputs
 pub record IsReadyRun (run : RunTask) (debug : Option DebugTask) (prepared : Prepared) : Type 0 where
-  pub core : prepared.machine.core ≡ new_core (model_of_program prepared.program).rom
-  pub devices : AreNew prepared.machine.devices prepared.machine.script run.root
-  pub undo : IfSome prepared.session (λ session. session.undo ≡ [])
+  pub core : prepared.machine.value.core ≡ new_core (model_of_program prepared.program).rom
+  pub devices : AreNew prepared.machine.value.devices prepared.machine.value.script run.root
+  pub undo : IfSome prepared.session (λ session. session.value.undo ≡ [])
   pub outputs : paths_of prepared.outputs.items ≡ run_outputs run debug
 
 -- the inputs of a task ask for this, as far as is known of the contents of the tree

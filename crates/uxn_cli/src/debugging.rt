@@ -36,16 +36,16 @@ pub struct Session {
 pub fn debug_made<T: Tree, O: Sink, E: Sink>(
     task: &RunTask,
     debug: &DebugTask,
-    machine: Machine,
+    machine: &mut Machine,
     debugger: &mut Debugger<'_>,
     host: &mut Host<'_, '_, '_, T, O, E>,
 ) -> Result<RunEnd, Stop>
-    requires devices { AreNew machine.devices machine.script task.now.root }
+    requires devices { AreNew machine.old.devices machine.old.script task.now.root }
     requires budget { 1 ≤ task.now.budget }
     requires files { RunFiles task.now (T.state host.old.tree.now).contents }
     requires log { IsOutput task.now.root (T.state host.old.tree.now).contents debug.now.log }
     ensures runs { (commands : List DebugCommand) (labels : List Label) → held_by debugger.old ≡ new_watching commands labels
-        → RunsFromRoot task.now.root (task_trace task.now machine) (logged_changes task.now machine (Some (debugging debug.now commands labels)))
+        → RunsFromRoot task.now.root (task_trace task.now machine.old) (logged_changes task.now machine.old (Some (debugging debug.now commands labels)))
         (IsSome (Some (debugging debug.now commands labels)))
         (outside_of T.Tree O.Sink E.Sink host.old) (outside_of T.Tree O.Sink E.Sink host.new) result }
     ensures refusals { task.now.root ≡ None → RefusesNone (T.state host.old.tree.now) (T.state host.new.tree.now) }

@@ -38,18 +38,20 @@ pub fn new_machine(
     root: Option<Path>,
     rom: &[u8],
     script: Script,
-) -> Result<Machine, AllocError>
+) -> Result<Box<Machine>, AllocError>
     requires { length rom.now ≤ largest_rom }
-    ensures core { IfOk result (λ machine. machine.core ≡ new_core rom.now) }
-    ensures devices { IfOk result (λ machine. AreNew machine.devices script root) }
-    ensures script { IfOk result (λ machine. machine.script ≡ script) }
+    ensures core { IfOk result (λ machine. machine.value.core ≡ new_core rom.now) }
+    ensures devices { IfOk result (λ machine. AreNew machine.value.devices script root) }
+    ensures script { IfOk result (λ machine. machine.value.script ≡ script) }
 {
     let core = Core::new(alloc, rom)?;
     script.known();
     let devices = Devices::new(alloc, root, clock_of(script.clock()))?;
-    Ok(Machine {
+    let machine = Machine {
         core,
         devices,
         script,
-    })
+    };
+    let boxed = Box::new(alloc, machine)?;
+    Ok(boxed)
 }

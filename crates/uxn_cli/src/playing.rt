@@ -1,11 +1,13 @@
 //! What `play` and `debug` do: a program is run over a script, and a debugger may watch it.
-ghost use Rattle.std.specs.Prelude.{◌≡◌, ◌≤◌, [], None, Ok, IfOk, IfSome, IsSome, length, option_map};
+ghost use Rattle.std.specs.Prelude.{◌≡◌, ◌≤◌, [], None, Some, Ok, IfOk, IfSome, IsSome, length, option_map};
 ghost use Rattle.uxn_io_traits.specs.Ended.{RefusesNone};
 ghost use Rattle.uxn_memory.specs.Bytes.{largest_rom};
 ghost use Rattle.uxn_arguments.specs.Places.{HasApartOutputs};
 ghost use Rattle.uxn_arguments.specs.declared.task.Task.TheVariants as tasks;
 ghost use Rattle.vector_loop.specs.Outputs.{IsOutput};
+ghost use Rattle.uxn_arguments.specs.Options.{run_outputs as output_paths};
 ghost use Rattle.uxn_task_files.specs.Accepted.{Loaded};
+ghost use Rattle.uxn_task_files.specs.Outputs.{paths_of};
 ghost use Rattle.uxn_cli.specs.Verdict.{run_plan, run_plan_of};
 ghost use Rattle.uxn_cli.specs.RunJob.{debugging};
 ghost use Rattle.uxn_cli.specs.Outside.{DoesWork, SameHost, outside_of, state_of_host};
@@ -36,11 +38,11 @@ use vector_loop::NoWatch;
 #[derive(Drop)]
 pub struct Prepared {
     /// The machine.
-    pub machine: Machine,
+    pub machine: Box<Machine>,
     /// The program, which may have labels, and whose source may include files.
     pub program: Program,
     /// The session of a debugger.
-    pub session: Option<Session>,
+    pub session: Option<Box<Session>>,
     /// The files that it writes, which have no bytes yet.
     pub outputs: Vec<Output>,
 }
@@ -51,21 +53,35 @@ fn open_session(
     debug: &Option<DebugTask>,
     commands: Vec<DebugCommand>,
     given: Option<Vec<Label>>,
-) -> Result<Option<Session>, AllocError>
-    ensures debugger { IfOk result (λ session. (program : Loaded) → option_map (session_debugging program) session
+) -> Result<Option<Box<Session>>, AllocError>
+    ensures debugger { IfOk result (λ opened. (program : Loaded) → option_map (λ session. session_debugging program session.value) opened
         ≡ option_map (λ task. debugging task commands.items (model_of_debug_labels program given)) debug.now) }
-    ensures undo { IfOk result (λ session. IfSome session (λ opened. opened.undo ≡ [])) }
+    ensures undo { IfOk result (λ opened. IfSome opened (λ session. session.value.undo ≡ [])) }
 {
     let Some(task) = debug else {
         return Ok(None);
     };
     let undo = Undo::new(alloc)?;
-    Ok(Some(Session {
+    let session = Session {
         task: *task,
         commands,
         given,
         undo,
-    }))
+    };
+    let boxed = Box::new(alloc, session)?;
+    Ok(Some(boxed))
+}
+
+/// The files that a run writes, which have no bytes yet.
+fn new_outputs(
+    alloc: Global,
+    run: &RunTask,
+    debug: &Option<DebugTask>,
+) -> Result<Vec<Output>, AllocError>
+    ensures { IfOk result (λ outputs. paths_of outputs.items ≡ output_paths run.now debug.now) }
+{
+    let paths = run_outputs(alloc, run, debug)?;
+    empty_outputs(alloc, &paths)
 }
 
 /// What a run has before it begins, of the inputs that were read.
@@ -85,10 +101,9 @@ fn ready(
         script,
         commands,
     } = inputs;
-    let paths = run_outputs(alloc, run, debug)?;
-    let outputs = empty_outputs(alloc, &paths)?;
-    let session = open_session(alloc, debug, commands, given)?;
     let machine = new_machine(alloc, run.root, program.rom(), script)?;
+    let session = open_session(alloc, debug, commands, given)?;
+    let outputs = new_outputs(alloc, run, debug)?;
     Ok(Prepared {
         machine,
         program,
@@ -113,6 +128,37 @@ fn prepare<T: Tree>(
     Ok(prepared)
 }
 
+/// Runs a machine that is ready under its debugger, and writes the report and the log.
+fn run_session<T: Tree, O: Sink, E: Sink>(
+    alloc: Global,
+    run: &RunTask,
+    machine: &mut Machine,
+    program: &Program,
+    session: Session,
+    host: &mut Host<'_, '_, '_, T, O, E>,
+) -> Result<RunEnd, Stop>
+    requires devices { AreNew machine.old.devices machine.old.script run.now.root }
+    requires undo { session.undo ≡ [] }
+    requires budget { 1 ≤ run.now.budget }
+    requires files { RunFiles run.now (T.state host.old.tree.now).contents }
+    requires log { IsOutput run.now.root (T.state host.old.tree.now).contents session.task.log }
+    ensures runs { RunsFromRoot run.now.root (task_trace run.now machine.old)
+        (logged_changes run.now machine.old (Some (session_debugging (model_of_program program.now) session))) (IsSome (Some session))
+        (outside_of T.Tree O.Sink E.Sink host.old) (outside_of T.Tree O.Sink E.Sink host.new) result }
+    ensures refusals { run.now.root ≡ None → RefusesNone (T.state host.old.tree.now) (T.state host.new.tree.now) }
+    ensures same { SameHost host.old host.new }
+{
+    let Session {
+        task,
+        commands,
+        given,
+        undo,
+    } = session;
+    let labels = labels_of(program, &given);
+    let mut debugger = Debugger::new(alloc, commands, labels, undo);
+    debug_made(run, &task, machine, &mut debugger, host)
+}
+
 /// Runs a machine that is ready, under its debugger where it has one, and writes the report and the log.
 fn run_prepared<T: Tree, O: Sink, E: Sink>(
     alloc: Global,
@@ -120,37 +166,35 @@ fn run_prepared<T: Tree, O: Sink, E: Sink>(
     prepared: Prepared,
     host: &mut Host<'_, '_, '_, T, O, E>,
 ) -> Result<RunEnd, Stop>
-    requires devices { AreNew prepared.machine.devices prepared.machine.script run.now.root }
-    requires undo { IfSome prepared.session (λ session. session.undo ≡ []) }
+    requires devices { AreNew prepared.machine.value.devices prepared.machine.value.script run.now.root }
+    requires undo { IfSome prepared.session (λ session. session.value.undo ≡ []) }
     requires budget { 1 ≤ run.now.budget }
     requires files { RunFiles run.now (T.state host.old.tree.now).contents }
     requires log { IfSome (prepared_debugging prepared) (λ debug. IsOutput run.now.root (T.state host.old.tree.now).contents debug.task.log) }
-    ensures runs { RunsFromRoot run.now.root (task_trace run.now prepared.machine)
-        (logged_changes run.now prepared.machine (prepared_debugging prepared)) (IsSome (prepared_debugging prepared))
+    ensures runs { RunsFromRoot run.now.root (task_trace run.now prepared.machine.value)
+        (logged_changes run.now prepared.machine.value (prepared_debugging prepared)) (IsSome (prepared_debugging prepared))
         (outside_of T.Tree O.Sink E.Sink host.old) (outside_of T.Tree O.Sink E.Sink host.new) result }
     ensures refusals { run.now.root ≡ None → RefusesNone (T.state host.old.tree.now) (T.state host.new.tree.now) }
     ensures same { SameHost host.old host.new }
 {
     let Prepared {
-        machine,
+        mut machine,
         program,
         session,
         outputs: _,
     } = prepared;
     match session {
-        Some(
-            Session {
-                task,
-                commands,
-                given,
-                undo,
-            },
-        ) => {
-            let labels = labels_of(&program, &given);
-            let mut debugger = Debugger::new(alloc, commands, labels, undo);
-            debug_made(run, &task, machine, &mut debugger, host)
+        Some(session) => {
+            run_session(
+                alloc,
+                run,
+                &mut machine,
+                &program,
+                Box::into_inner(session),
+                host,
+            )
         }
-        None => run_made(run, machine, host, &mut NoWatch),
+        None => run_made(run, &mut machine, host, &mut NoWatch),
     }
 }
 

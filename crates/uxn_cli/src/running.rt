@@ -102,24 +102,23 @@ fn settings_of(task: &RunTask) -> Settings
 /// Runs a machine that is ready, and writes the report.
 pub fn run_made<T: Tree, O: Sink, E: Sink, W: Watcher>(
     task: &RunTask,
-    machine: Machine,
+    machine: &mut Machine,
     host: &mut Host<'_, '_, '_, T, O, E>,
     watcher: &mut W,
 ) -> Result<RunEnd, Stop>
-    requires devices { AreNew machine.devices machine.script task.now.root }
+    requires devices { AreNew machine.old.devices machine.old.script task.now.root }
     requires budget { 1 ≤ task.now.budget }
     requires files { RunFiles task.now (T.state host.old.tree.now).contents }
-    ensures runs { RunsFromRoot task.now.root (task_trace task.now machine) (reported_changes task.now machine) (MayRefuse W.may_refuse)
+    ensures runs { RunsFromRoot task.now.root (task_trace task.now machine.old) (reported_changes task.now machine.old) (MayRefuse W.may_refuse)
         (outside_of T.Tree O.Sink E.Sink host.old) (outside_of T.Tree O.Sink E.Sink host.new) result }
     ensures watcher { AtRootView task.now.root (T.state host.old.tree.now).contents (λ root_view. OnOk result
         (WasShown W.shown W.ended (W.held watcher.old)
-        (task_trace task.now machine root_view) (W.held watcher.new))) }
+        (task_trace task.now machine.old root_view) (W.held watcher.new))) }
     ensures refusals { task.now.root ≡ None → RefusesNone (T.state host.old.tree.now) (T.state host.new.tree.now) }
     ensures same { SameHost host.old host.new }
 {
-    let mut machine = machine;
     let version = machine.script.version_kind();
-    let end = run_machine(&mut machine, &settings_of(task), host, watcher)?;
+    let end = run_machine(machine, &settings_of(task), host, watcher)?;
     let text = report(version, end.exit, &end.tally);
     write_text(&task.report, &text, host.tree)
         .and(Ok(end))

@@ -557,8 +557,8 @@ module _ (run : RunTask) (asked : Option DebugTask) (before start made : TreeSta
   outputs : outputs_of task ≡ job_outputs ready_job
   outputs = plan-outputs start.contents task _ plan
 
-  ready-trace : task_trace run prepared.machine ready_view ≡ trace_of start.contents ready_job
-  ready-trace = ap (reference_trace _ _ prepared.machine.script ready_view) of.core
+  ready-trace : task_trace run prepared.machine.value ready_view ≡ trace_of start.contents ready_job
+  ready-trace = ap (reference_trace _ _ prepared.machine.value.script ready_view) of.core
 
   abbrev IsReadyOutput : List ℕ → Type 0
   IsReadyOutput path = IsOutput run.root made.contents path
@@ -592,11 +592,11 @@ module _ (run : RunTask) (asked : Option DebugTask) (before start made : TreeSta
     given = plan-accepted start.contents task _ plan makes.free
 
     abbrev Went : Result RunEnd Stop → Type 0
-    Went result = RunsFromRoot run.root (task_trace run prepared.machine) (logged_changes run prepared.machine debug) (IsSome debug)
+    Went result = RunsFromRoot run.root (task_trace run prepared.machine.value) (logged_changes run prepared.machine.value debug) (IsSome debug)
         (outside made out err) (observed_outside now) result
 
     abbrev Ran : Result RunEnd Stop → Type 0
-    Ran result = RunsOverOutside (trace_of start.contents ready_job) (logged_changes run prepared.machine debug (trace_of start.contents ready_job))
+    Ran result = RunsOverOutside (trace_of start.contents ready_job) (logged_changes run prepared.machine.value debug (trace_of start.contents ready_job))
         (IsSome debug) (outside made out err) (observed_outside now) result
 
     -- all of it, with the outputs
@@ -604,7 +604,7 @@ module _ (run : RunTask) (asked : Option DebugTask) (before start made : TreeSta
         → Ended (running start.contents ready_job) (blame_if result) (outside start out err) (observed_outside now)
     unfolding running
     all result ran =
-        rw outputs at (ended-then (creating_all (outputs_of task)) (logged_changes run prepared.machine debug (trace_of start.contents ready_job))
+        rw outputs at (ended-then (creating_all (outputs_of task)) (logged_changes run prepared.machine.value debug (trace_of start.contents ready_job))
         (blame_if result)
         (outside start out err) (outside made out err) (observed_outside now) begun ran.made)
 

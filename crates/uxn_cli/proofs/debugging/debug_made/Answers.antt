@@ -15,8 +15,8 @@ write_text-requires g c = stays-if c.args.task.now.root (Some c.args.debug.now.l
 pub returns-clause-runs : goal.returns-clause-runs
 unfolding reference_trace
 returns-clause-runs g c = λ commands labels new.
-    let keeps = c.the_log_is_that_of_the_run.ensures.runs commands labels _ _ c.args.machine.script in
-    let begun = first_state c.args.machine.core c.args.machine.script in
+    let keeps = c.the_log_is_that_of_the_run.ensures.runs commands labels _ _ c.args.machine.now.script in
+    let begun = first_state c.args.machine.now.core c.args.machine.now.script in
     rw (c.or.ensures, c.and.ensures)
     (runs-then _ _ _ _ _ (Some c.args.debug.now.log) _ (log_over labels commands) _ _ c.in_ok-end.end
     (runs-as _ _ _ _ _ _ _ _ _ (λ trace. refl) (λ watched. refl) c.in_ok-end.ensures.runs)

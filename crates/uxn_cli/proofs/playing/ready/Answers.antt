@@ -6,7 +6,7 @@ returns-clause-ready c = record {
   core = c.in_ok-machine.ensures.core ∙ ap new_core c.rom.ensures;
   devices = rw c.in_ok-machine.ensures.script c.in_ok-machine.ensures.devices;
   undo = c.in_ok-session.ensures.undo;
-  outputs = c.in_ok-outputs.ensures ∙ c.deref.ensures.value ∙ c.in_ok-paths.ensures;
+  outputs = c.in_ok-outputs.ensures;
 }
 
 pub returns-clause-plan : goal.returns-clause-plan

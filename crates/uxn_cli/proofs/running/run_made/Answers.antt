@@ -5,7 +5,7 @@ use Rattle.uxn_cli.proofs.running.run_made.Goals as goal
 
 pub run_machine-requires-clause-devices : goal.run_machine-requires-clause-devices
 run_machine-requires-clause-devices g c =
-    subst (AreNew c.args.machine.devices c.args.machine.script) (sym (c.requires.devices fin.empty false).root) c.requires.devices
+    subst (AreNew c.args.machine.now.devices c.args.machine.now.script) (sym (c.requires.devices fin.empty false).root) c.requires.devices
 
 pub run_machine-requires-clause-outputs : goal.run_machine-requires-clause-outputs
 run_machine-requires-clause-outputs g c =
@@ -26,7 +26,7 @@ write_text-requires g c =
 pub returns-clause-runs : goal.returns-clause-runs
 returns-clause-runs g c =
     let held = (c.requires.devices fin.empty false).root in
-    let version = c.args.machine.script.version in
+    let version = c.args.machine.now.script.version in
     let runs = runs-at _ _ _ _ _ _ _ _ held (rw c.settings_of.ensures at c.in_ok-end.ensures.runs) in
     rw (c.or.ensures, c.and.ensures)
     (runs-then _ _ _ _ _ c.args.task.now.report _ (λ trace. report_text version (exit_code_at trace.last) trace.last.tally) _ _ c.in_ok-end.end
