@@ -56,8 +56,7 @@ fn accept_machine<T: Tree>(alloc: Global, path: &Path, tree: &mut T) -> Result<B
     ensures fits { IfOk result (λ rom. length rom.list ≤ largest_rom) }
 {
     let source = accept_source(alloc, path, tree)?;
-    let rom = Bytes::new(alloc, source.assembly().rom())?;
-    Ok(rom)
+    Bytes::new(alloc, source.assembly().rom()).map_err(Halt::from)
 }
 
 /// The ROMs of all machines, one after the other.

@@ -1,19 +1,12 @@
-use Rattle.uxn_task_files.proofs.Common.{◌≡◌, rules, ap, Ok}
+use Rattle.uxn_task_files.proofs.Common.{rules}
 unfoldable use Rattle.uxn_task_files.proofs.Common.{machine_of}
-use Rattle.tal_rom.specs.Assembly.{rom_of}
-use Rattle.uxn_task_files.proofs.StepLemmas.{step-stop, step-last, step-no-memory}
+use Rattle.uxn_task_files.proofs.StepLemmas.{step-stop, step-last}
 use Rattle.uxn_task_files.proofs.machines.accept_machine.Goals as goal
 
 pub returns-in_err-source-clause-rom : goal.returns-in_err-source-clause-rom
 unfolding machine_of
 returns-in_err-source-clause-rom g c = step-stop _ _ _ _ _ _ _ _ (search rules) c.in_err-source.ensures.source
 
-pub returns-in_err-rom-clause-rom : goal.returns-in_err-rom-clause-rom
-unfolding machine_of
-returns-in_err-rom-clause-rom g c = step-no-memory _ _ _ _ _ _ _ _ (search rules) c.in_ok-source.ensures.source
-
 pub returns-clause-rom : goal.returns-clause-rom
 unfolding machine_of
-returns-clause-rom g c =
-    let rom : rom_of c.in_ok-source.source.text ≡ c.in_ok-rom.rom.list = search rules in
-    step-last _ _ _ _ _ _ _ _ c.in_ok-source.ensures.source (ap Ok rom)
+returns-clause-rom g c = step-last _ _ _ _ _ _ _ _ c.in_ok-source.ensures.source (search rules)
