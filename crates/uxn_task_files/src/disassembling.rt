@@ -21,6 +21,5 @@ pub fn disassemble_rom<T: Tree>(
 {
     let rom = read_text(alloc, InputKind::BankRom, &task.file, tree)?;
     let given = accept_symbols(alloc, &task.symbols, tree)?;
-    let text = disassemble(alloc, rom.as_slice(), labels_or(&given, &[]))?;
-    Ok(text)
+    disassemble(alloc, rom.as_slice(), labels_or(&given, &[])).map_err(Halt::from)
 }

@@ -1,6 +1,6 @@
-use Rattle.uxn_task_files.proofs.Common.{rules, refl}
+use Rattle.uxn_task_files.proofs.Common.{rules}
 unfoldable use Rattle.uxn_task_files.proofs.Common.{disassembly_of}
-use Rattle.uxn_task_files.proofs.StepLemmas.{step-stop, step-more, step-last, step-no-memory}
+use Rattle.uxn_task_files.proofs.StepLemmas.{step-stop, step-more, step-last}
 use Rattle.uxn_task_files.proofs.disassembling.disassemble_rom.Goals as goal
 
 pub returns-in_err-rom : goal.returns-in_err-rom
@@ -11,12 +11,9 @@ pub returns-in_err-given : goal.returns-in_err-given
 unfolding disassembly_of
 returns-in_err-given g c = step-more _ _ _ _ _ _ _ _ _ c.in_ok-rom.ensures.text (step-stop _ _ _ _ _ _ _ _ (search rules) c.in_err-given.ensures)
 
-pub returns-in_err-text : goal.returns-in_err-text
-unfolding disassembly_of
-returns-in_err-text g c = step-more _ _ _ _ _ _ _ _ _ c.in_ok-rom.ensures.text (step-no-memory _ _ _ _ _ _ _ _ (search rules) c.in_ok-given.ensures)
-
 pub returns : goal.returns
 unfolding disassembly_of
 returns g c =
     step-more _ _ _ _ _ _ _ _ _ c.in_ok-rom.ensures.text
-    (step-last _ _ _ _ _ _ _ _ c.in_ok-given.ensures (rw (c.in_ok-text.ensures.value, c.as_slice.ensures, c.labels_or.ensures) refl))
+    (step-last _ _ _ _ _ _ _ _ c.in_ok-given.ensures
+    (let text = rw (c.as_slice.ensures, c.labels_or.ensures) at c.disassemble.ensures.value in search (rules, text)))
