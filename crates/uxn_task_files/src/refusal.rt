@@ -119,7 +119,7 @@ impl Refusal {
             Refusal::NoOutput(path) => labelled(alloc, b"output: ", path.bytes()),
             Refusal::Missing(path) => labelled(alloc, b"missing: ", path.bytes()),
             Refusal::Faulty(fault) => fault_line(alloc, fault),
-            Refusal::LongRom(length) => rom_line(alloc, *length),
+            Refusal::LongRom(length) => measured(alloc, b"rom: ", *length, b" bytes"),
             Refusal::BadSymbols(entry, kind) => numbered(alloc, b"symbols ", *entry, kind.name()),
             Refusal::BadScript(line, kind) => numbered(alloc, b"script ", *line, kind.name()),
             Refusal::BadCommands(line, kind) => numbered(alloc, b"commands ", *line, kind.name()),
@@ -146,22 +146,25 @@ impl Refusal {
 fn labelled(alloc: Global, label: &[u8], text: &[u8]) -> Result<Vec<u8>, AllocError>
     ensures { IfOk result (λ made. made.items ≡ label.now ++ text.now ++ 10 ∷ []) }
 {
-    let mut line = Vec::from_slice(alloc, label)?;
-    line.extend_from_slice(text)?;
-    line.push(b'\n')?;
-    Ok(line)
+    [label, text, b"\n"].as_slice().concat(alloc)
 }
 
 /// What an input is, its faulty line or entry, what is wrong with it, and a newline.
 fn numbered(alloc: Global, label: &[u8], number: u32, kind: &str) -> Result<Vec<u8>, AllocError>
     ensures { IfOk result (λ made. made.items ≡ line (label.now ++ decimal number ++ codes ": " ++ kind.now)) }
 {
-    let mut line = Vec::from_slice(alloc, label)?;
-    line.extend_from_slice(&decimal(u64::from(number)))?;
-    line.extend_from_slice(b": ")?;
-    line.extend_from_slice(kind.as_bytes())?;
-    line.push(b'\n')?;
-    Ok(line)
+    let number = decimal(u64::from(number));
+    [label, &number, b": ", kind.as_bytes(), b"\n"]
+        .as_slice()
+        .concat(alloc)
+}
+
+/// What an input is, how large it is, in what unit, and a newline.
+fn measured(alloc: Global, label: &[u8], size: u64, unit: &[u8]) -> Result<Vec<u8>, AllocError>
+    ensures { IfOk result (λ made. made.items ≡ line (label.now ++ decimal size ++ unit.now)) }
+{
+    let size = decimal(size);
+    [label, &size, unit, b"\n"].as_slice().concat(alloc)
 }
 
 /// Names the first fault of a source.
@@ -169,17 +172,6 @@ fn fault_line(alloc: Global, fault: &SourceFault) -> Result<Vec<u8>, AllocError>
     ensures { IfOk result (λ made. made.items ≡ line (message_of fault.now)) }
 {
     let mut line = fault.message(alloc)?;
-    line.push(b'\n')?;
-    Ok(line)
-}
-
-/// Says how long a ROM is.
-fn rom_line(alloc: Global, length: u64) -> Result<Vec<u8>, AllocError>
-    ensures { IfOk result (λ made. made.items ≡ refusal_line (Refusal.LongRom length)) }
-{
-    let mut line = Vec::from_slice(alloc, b"rom: ")?;
-    line.extend_from_slice(&decimal(length))?;
-    line.extend_from_slice(b" bytes")?;
     line.push(b'\n')?;
     Ok(line)
 }
