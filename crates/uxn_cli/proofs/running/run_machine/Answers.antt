@@ -1,11 +1,20 @@
 use Rattle.uxn_cli.proofs.Clauses.Works.{contents_on, ◌≡◌, ◌∙◌, refl, ap, rules, arith, Err, false, exit_code_of, first_devices, reference_trace}
 use Rattle.uxn_cli.proofs.Clauses.Works.{at-start}
+use Rattle.uxn_cli.proofs.Clauses.Works.{ℕ, exit_code_at, run_end}
+use Rattle.uxn_cli.specs.RunsFromRoot.{machine_trace}
+use Rattle.vector_loop.specs.State.{State}
+use Rattle.vector_loop.specs.declared.tally.Tally.{Tally}
 use Rattle.std.specs.FinMap as fin
 use Rattle.uxn_cli.proofs.running.run_machine.Goals as goal
 
 pub run_script-requires-clause-frames : goal.run_script-requires-clause-frames
 run_script-requires-clause-frames g c = ap (λ devices. devices.time.frames) c.new-bus.ensures.devices_now
     ∙ (c.requires.devices fin.empty false).frames
+
+-- how a run ended is its exit code and its tally
+end-of : (exit : ℕ) (tally : Tally) (last : State) → exit ≡ exit_code_at last → tally ≡ last.tally
+    → record { exit = exit; tally = tally } ≡ run_end last
+end-of exit tally last code counted = rw (code, counted) refl
 
 pub returns-clause-runs : goal.returns-clause-runs
 unfolding reference_trace
@@ -22,7 +31,10 @@ returns-clause-runs g c =
           let made = ends.follows.makes in
           record {
             made = search (rules, made);
-            ends = rw (c.exit_code.ensures ∙ ap exit_code_of (c.stored.ensures.stored _ ends.follows.devices.devices), ends.follows.tally) refl;
+            ends = end-of c.exit_code.result c.in_ok-tally.tally (machine_trace c.args.settings.now machine root_view).last
+                (c.exit_code.ensures
+                ∙ ap exit_code_of (c.stored.ensures.stored (machine_trace c.args.settings.now machine root_view).last.devices
+                ends.follows.devices.devices)) ends.follows.tally;
             names = tt;
           };
       ledger = search (rules, ledger);
