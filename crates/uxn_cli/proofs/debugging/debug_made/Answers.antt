@@ -7,7 +7,8 @@ use Rattle.uxn_cli.proofs.debugging.debug_made.Goals as goal
 pub returns-in_err-end-clause-runs : goal.returns-in_err-end-clause-runs
 returns-in_err-end-clause-runs g c = λ commands labels new.
     let result : c.from_residual.result ≡ Err c.in_err-end.field-0.0 = search rules in
-    rw result (runs-first _ _ _ _ _ _ _ _ (runs-as _ _ _ _ _ _ _ _ _ (λ trace. refl) (λ watched. refl) c.in_err-end.ensures.runs))
+    rw result (runs-first _ _ _ _ _ _ _ _
+    (runs-as _ _ _ _ _ _ _ _ (Err c.in_err-end.field-0.0) (λ trace. refl) (λ watched. refl) c.in_err-end.ensures.runs))
 
 pub write_text-requires : goal.write_text-requires
 write_text-requires g c = stays-if c.args.task.now.root (Some c.args.debug.now.log) _ _ c.in_ok-end.ensures.runs.files c.requires.log
