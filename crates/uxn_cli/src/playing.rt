@@ -134,16 +134,16 @@ fn run_session<T: Tree, O: Sink, E: Sink>(
     run: &RunTask,
     machine: &mut Machine,
     program: &Program,
-    session: Session,
+    session: Box<Session>,
     host: &mut Host<'_, '_, '_, T, O, E>,
 ) -> Result<RunEnd, Stop>
     requires devices { AreNew machine.old.devices machine.old.script run.now.root }
-    requires undo { session.undo ≡ [] }
+    requires undo { session.value.undo ≡ [] }
     requires budget { 1 ≤ run.now.budget }
     requires files { RunFiles run.now (T.state host.old.tree.now).contents }
-    requires log { IsOutput run.now.root (T.state host.old.tree.now).contents session.task.log }
+    requires log { IsOutput run.now.root (T.state host.old.tree.now).contents session.value.task.log }
     ensures runs { RunsFromRoot run.now.root (task_trace run.now machine.old)
-        (logged_changes run.now machine.old (Some (session_debugging (model_of_program program.now) session))) (IsSome (Some session))
+        (logged_changes run.now machine.old (Some (session_debugging (model_of_program program.now) session.value))) (IsSome (Some session))
         (outside_of T.Tree O.Sink E.Sink host.old) (outside_of T.Tree O.Sink E.Sink host.new) result }
     ensures refusals { run.now.root ≡ None → RefusesNone (T.state host.old.tree.now) (T.state host.new.tree.now) }
     ensures same { SameHost host.old host.new }
@@ -153,7 +153,7 @@ fn run_session<T: Tree, O: Sink, E: Sink>(
         commands,
         given,
         undo,
-    } = session;
+    } = Box::into_inner(session);
     let labels = labels_of(program, &given);
     let mut debugger = Debugger::new(alloc, commands, labels, undo);
     debug_made(run, &task, machine, &mut debugger, host)
@@ -184,16 +184,7 @@ fn run_prepared<T: Tree, O: Sink, E: Sink>(
         outputs: _,
     } = prepared;
     match session {
-        Some(session) => {
-            run_session(
-                alloc,
-                run,
-                &mut machine,
-                &program,
-                Box::into_inner(session),
-                host,
-            )
-        }
+        Some(session) => run_session(alloc, run, &mut machine, &program, session, host),
         None => run_made(run, &mut machine, host, &mut NoWatch),
     }
 }

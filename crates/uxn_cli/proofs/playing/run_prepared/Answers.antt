@@ -9,7 +9,7 @@ run_made-requires-clause-devices g c = rw c.deref_mut-in-None.ensures.value c.re
 
 pub returns-in-Some-clause-runs : goal.returns-in-Some-clause-runs
 returns-in-Some-clause-runs g c =
-    rw c.in-Some.is (rw (c.deref_mut.ensures.value, c.into_inner.ensures) at c.run_session.ensures.runs)
+    rw c.in-Some.is (rw c.deref_mut.ensures.value at c.run_session.ensures.runs)
 
 pub returns-clause-runs : goal.returns-clause-runs
 returns-clause-runs g c =
