@@ -1,5 +1,5 @@
 -- What a line of commands means (profile), a row for each first word.
-use Rattle.std.specs.Prelude.{ℕ, ◌&&◌, nat_lt, if◌then◌else◌, List, ◌∷◌, drop, length}
+use Rattle.std.specs.Prelude.{ℕ, ◌&&◌, nat_lt, if◌then◌else◌, List, [], ◌∷◌, drop, length}
 use Rattle.std.specs.Prelude.{Option, Some, None, option_map, Result, Ok, Err}
 use Rattle.std.specs.Option.{ok_or}
 use Rattle.uxn_limits.specs.declared.limits.TheConstants.{MOST_STEPS, MOST_MOMENTS, MOST_PRINTED}
@@ -27,6 +27,15 @@ address_in labels word =
     if is_short_number word then Ok (number_of_digits word)
     else if begins_with 64 word && nat_lt 1 (length word) then ok_or (address_named labels (drop 1 word)) NoSuchLabel
     else Err BadValue
+
+-- the first value as an address, and as a count from 1
+abbrev pub address_of_values : List Label → List (List ℕ) → CommandVerdict ℕ
+address_of_values labels [] = Err BadValue
+address_of_values labels (a ∷ more) = address_in labels a
+
+abbrev pub count_of_values : ℕ → List (List ℕ) → CommandVerdict ℕ
+count_of_values most [] = Err BadValue
+count_of_values most (n ∷ more) = ok_or (number_within 1 most n) BadValue
 
 -- how many bytes of memory from an address on; a label is looked up where both values are of their form and range
 abbrev pub memory_command : CommandVerdict ℕ → Option ℕ → CommandVerdict DebugCommand

@@ -1,11 +1,12 @@
 //! The first words of lines, and what a line means.
 
-ghost use Rattle.std.specs.Prelude.{◌≡◌, ◌<◌, if◌then◌else◌, IfSome, Some, None};
+ghost use Rattle.std.specs.Prelude.{◌≡◌, ◌<◌, ◌≤◌, ◌+◌, ◌*◌, ◌^◌, ◌&&◌, if◌then◌else◌, IfSome, IfOk, Some, None};
 ghost use Rattle.text_lines.specs.Lines.{words_of};
 ghost use Rattle.text_lines.specs.Rows.{rows_in};
 ghost use Rattle.tal_words.specs.Digits.{is_digit, digit_value, is_short_number, number_of_digits};
 ghost use Rattle.debug_commands.specs.declared.line.TheConstants.{ROWS};
-ghost use Rattle.debug_commands.specs.Lines.{address_in, command_line_of, command_of};
+ghost use Rattle.debug_commands.specs.declared.line.Keyword.TheVariants.{Mem};
+ghost use Rattle.debug_commands.specs.Lines.{address_in, address_of_values, command_line_of, command_of, count_of_values};
 
 use crate::command::{CommandKind, DebugCommand};
 use tal_symbols::{Label, address_of};
@@ -70,30 +71,49 @@ fn command_of(
     ensures { result ≡ command_of labels.now keyword (words_of values.now) }
 {
     match keyword {
-        Keyword::Run => return Ok(DebugCommand::Run),
-        Keyword::Where => return Ok(DebugCommand::Here),
-        Keyword::Stacks => return Ok(DebugCommand::Stacks),
-        Keyword::Ports => return Ok(DebugCommand::PortPage),
-        _ => {}
-    }
-    let (word, more) = first_word(values).ok_or(CommandKind::BadValue)?;
-    match keyword {
-        Keyword::Break => Ok(DebugCommand::Break(address_in(labels, word)?)),
-        Keyword::Delete => Ok(DebugCommand::Delete(address_in(labels, word)?)),
-        Keyword::Step => match number_within(1, limits::MOST_STEPS, word) {
-            Some(count) => Ok(DebugCommand::Step(count as u32)),
-            None => Err(CommandKind::BadValue),
-        },
-        Keyword::Back => match number_within(1, limits::MOST_MOMENTS as u64, word) {
-            Some(count) => Ok(DebugCommand::Back(count as u32)),
-            None => Err(CommandKind::BadValue),
-        },
-        _ => {
-            let (count, _) = first_word(more).ok_or(CommandKind::BadValue)?;
-            let count = number_within(1, limits::MOST_PRINTED, count).ok_or(CommandKind::BadValue)?;
-            Ok(DebugCommand::Mem(address_in(labels, word)?, count as u16))
+        Keyword::Break => address_of_values(labels, values).map(DebugCommand::Break),
+        Keyword::Delete => address_of_values(labels, values).map(DebugCommand::Delete),
+        Keyword::Run => Ok(DebugCommand::Run),
+        Keyword::Step => count_of_values(limits::MOST_STEPS, values).map(DebugCommand::Step),
+        Keyword::Back => {
+            count_of_values(limits::MOST_MOMENTS as u64, values).map(DebugCommand::Back)
         }
+        Keyword::Where => Ok(DebugCommand::Here),
+        Keyword::Stacks => Ok(DebugCommand::Stacks),
+        Keyword::Mem => memory_of_values(labels, values),
+        Keyword::Ports => Ok(DebugCommand::PortPage),
     }
+}
+
+// The bytes of memory that an address and a count give.
+#[tactic(auto, unfolding(crate::specs::Lines::command_of))]
+fn memory_of_values(labels: &[Label], values: &[u8]) -> Result<DebugCommand, CommandKind>
+    ensures { result ≡ command_of labels.now Mem (words_of values.now) }
+{
+    let (address, more) = first_word(values).ok_or(CommandKind::BadValue)?;
+    let count = count_of_values(limits::MOST_PRINTED, more)?;
+    Ok(DebugCommand::Mem(address_in(labels, address)?, count as u16))
+}
+
+// The first value as a count from 1.
+fn count_of_values(most: u64, values: &[u8]) -> Result<u32, CommandKind>
+    requires { most < 2 ^ 32 }
+    ensures count { result ≡ count_of_values most (words_of values.now) }
+    ensures within { IfOk result (λ count. count ≤ most) }
+{
+    let (word, _) = first_word(values).ok_or(CommandKind::BadValue)?;
+    match number_within(1, most, word) {
+        Some(count) => Ok(count as u32),
+        None => Err(CommandKind::BadValue),
+    }
+}
+
+// The first value as an address.
+fn address_of_values(labels: &[Label], values: &[u8]) -> Result<u16, CommandKind>
+    ensures { result ≡ address_of_values labels.now (words_of values.now) }
+{
+    let (word, _) = first_word(values).ok_or(CommandKind::BadValue)?;
+    address_in(labels, word)
 }
 
 // The address that a word represents: four lowercase digits, or `@` and the name of a label.
@@ -118,13 +138,17 @@ fn short_of(word: &[u8]) -> Option<u16>
     ensures { result ≡ (if is_short_number word.now then Some (number_of_digits word.now) else None) }
 {
     match word {
-        [a, b, c, d] => {
-            let high = digit_of(*a)? * 16 + digit_of(*b)?;
-            let low = digit_of(*c)? * 16 + digit_of(*d)?;
-            Some(high * 256 + low)
-        }
+        [a, b, c, d] => Some(byte_of(*a, *b)? * 256 + byte_of(*c, *d)?),
         _ => None,
     }
+}
+
+// The number that two lowercase digits spell.
+fn byte_of(high: u8, low: u8) -> Option<u16>
+    ensures byte { result ≡ (if is_digit high && is_digit low then Some (16 * digit_value high + digit_value low) else None) }
+    ensures small { IfSome result (λ byte. byte < 256) }
+{
+    Some(digit_of(high)? * 16 + digit_of(low)?)
 }
 
 // The value of a lowercase hexadecimal digit.
