@@ -7,7 +7,7 @@ ghost use Rattle.uxn_limits.specs.declared.limits.TheConstants.{TEXT_LIMIT};
 ghost use Rattle.hex.specs.Hex.{encode_lower};
 ghost use Rattle.play_script.specs.Held.{bytes_in};
 ghost use Rattle.play_script.specs.Limits.{IsScript};
-ghost use Rattle.play_script.specs.PlainText.{argument_words, clock_words, event_words, line_text, plain_text};
+ghost use Rattle.play_script.specs.PlainText.{argument_words, clock_words, event_words, line_text, plain_event, plain_text};
 ghost use Rattle.play_script.specs.PlainText.{text_word, value_word, version_words};
 ghost use Rattle.play_script.specs.Scripts.{ScriptView, script_of};
 ghost use Rattle.play_script.specs.declared.script.Event.TheVariants.{Device};
@@ -103,29 +103,57 @@ fn put_events(text: &mut Vec<u8>, events: &[Event]) -> Result<(), AllocError>
 fn put_event(text: &mut Vec<u8>, event: &Event) -> Result<(), AllocError>
     ensures { OnOk result (text.new.items ≡ text.old.items ++ line_text (event_words event.now)) }
 {
+    let name = event_name(event);
     match *event {
-        Event::Input(byte) => put_line(text, "input", [Byte(byte)]),
-        Event::EndInput => put_line(text, "end", []),
-        Event::Frame => put_line(text, "frame", []),
-        Event::Device(input) => put_input(text, &input),
-        Event::Shot => put_line(text, "shot", []),
-        Event::Expect(port, byte) => put_line(text, "expect", [Byte(port), Byte(byte)]),
+        Event::Input(byte) => put_line(text, name, [Byte(byte)]),
+        Event::EndInput | Event::Frame | Event::Shot => put_line(text, name, []),
+        Event::Device(input) => put_input(text, name, &input),
+        Event::Expect(port, byte) => put_line(text, name, [Byte(port), Byte(byte)]),
     }
 }
 
-fn put_input(text: &mut Vec<u8>, input: &Input) -> Result<(), AllocError>
-    ensures { OnOk result (text.new.items ≡ text.old.items ++ line_text (event_words (Device input.now))) }
+// The first word of an event's line.
+fn event_name(event: &Event) -> &'static str
+    ensures { result.now ≡ (plain_event event.now).1 }
+{
+    match *event {
+        Event::Input(_) => "input",
+        Event::EndInput => "end",
+        Event::Frame => "frame",
+        Event::Device(input) => input_name(&input),
+        Event::Shot => "shot",
+        Event::Expect(..) => "expect",
+    }
+}
+
+// The first word of an input's line.
+fn input_name(input: &Input) -> &'static str
+    ensures { result.now ≡ (plain_event (Device input.now)).1 }
 {
     match *input {
-        Input::Key(byte) => put_line(text, "key", [Byte(byte)]),
-        Input::Down(mask) => put_line(text, "down", [Button(mask)]),
-        Input::Up(mask) => put_line(text, "up", [Button(mask)]),
-        Input::Mouse(x, y) => put_line(text, "mouse", [Pixel(x), Pixel(y)]),
-        Input::Press(mask) => put_line(text, "press", [MouseButton(mask)]),
-        Input::Release(mask) => put_line(text, "release", [MouseButton(mask)]),
-        Input::Scroll(x, y) => put_line(text, "scroll", [Turn(x), Turn(y)]),
-        Input::DownOf(player, mask) => put_line(text, "down", [Button(mask), Player(player)]),
-        Input::UpOf(player, mask) => put_line(text, "up", [Button(mask), Player(player)]),
+        Input::Key(_) => "key",
+        Input::Down(_) | Input::DownOf(..) => "down",
+        Input::Up(_) | Input::UpOf(..) => "up",
+        Input::Mouse(..) => "mouse",
+        Input::Press(_) => "press",
+        Input::Release(_) => "release",
+        Input::Scroll(..) => "scroll",
+    }
+}
+
+// Puts a line of this first word and the values of an input.
+fn put_input(text: &mut Vec<u8>, name: &str, input: &Input) -> Result<(), AllocError>
+    ensures { OnOk result (text.new.items ≡ text.old.items ++ line_text (name.now ∷ map value_word (plain_event (Device input.now)).2)) }
+{
+    match *input {
+        Input::Key(byte) => put_line(text, name, [Byte(byte)]),
+        Input::Down(mask) | Input::Up(mask) => put_line(text, name, [Button(mask)]),
+        Input::Mouse(x, y) => put_line(text, name, [Pixel(x), Pixel(y)]),
+        Input::Press(mask) | Input::Release(mask) => put_line(text, name, [MouseButton(mask)]),
+        Input::Scroll(x, y) => put_line(text, name, [Turn(x), Turn(y)]),
+        Input::DownOf(player, mask) | Input::UpOf(player, mask) => {
+            put_line(text, name, [Button(mask), Player(player)])
+        }
     }
 }
 
