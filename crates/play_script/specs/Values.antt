@@ -1,5 +1,5 @@
 -- What the words behind a line's first word represent (profile). A word is never empty.
-use Rattle.std.specs.Prelude.{ℕ, List, [], ◌∷◌, drop, if◌then◌else◌, Option, Some, option_map}
+use Rattle.std.specs.Prelude.{ℕ, List, [], ◌∷◌, drop, if◌then◌else◌, Option, Some, None, option_map}
 use Rattle.std.specs.Result.{result_ok}
 use Rattle.std.specs.Option.{option_zip}
 use Rattle.std.specs.List.{find}
@@ -27,3 +27,8 @@ bit_in table word = option_map (λ row. row.1) (find (λ row. bytes_eq row.0.now
 unfoldable pub one_or : ℕ → List (List ℕ) → Option ℕ
 one_or most [] = Some 1
 one_or most (word ∷ more) = number_within 1 most word
+
+-- the first two words
+abbrev pub two_words : List (List ℕ) → Option (List ℕ × List ℕ)
+two_words (first ∷ second ∷ more) = Some (first, second)
+two_words _ = None

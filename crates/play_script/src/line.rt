@@ -5,27 +5,32 @@ ghost use Rattle.text_lines.specs.Lines.{words_of};
 ghost use Rattle.input_ports.specs.declared.Input.{Input as DeviceInput};
 ghost use Rattle.play_script.specs.Gathered.{shown, FitsLine, IsScriptRead};
 ghost use Rattle.play_script.specs.Held.{bytes_in, texts_if};
-ghost use Rattle.play_script.specs.Limits.{AreTexts, IsBit, IsEvent, IsPlayer, IsSecond};
+ghost use Rattle.play_script.specs.Limits.{AreTexts, IsBit, IsEvent, IsPlayer, IsSecond, IsTime};
 ghost use Rattle.play_script.specs.Rows.{script_meaning_of, script_line_of, device_of, version_of};
 ghost use Rattle.play_script.specs.Rows.{clock, clock_of_values, events, keys_of, expect_of};
-ghost use Rattle.play_script.specs.Rows.{further, buttons_of, mouse_buttons_of, mouse_of, scroll_of};
-ghost use Rattle.play_script.specs.Values.{one_or, texts_of_values};
+ghost use Rattle.play_script.specs.Rows.{further, buttons_of, down_of, up_of, mouse_buttons_of, mouse_of, scroll_of};
+ghost use Rattle.play_script.specs.Values.{one_or, texts_of_values, two_words};
+ghost use Rattle.play_script.specs.declared.keyword.Keyword.TheVariants as word;
 ghost use Rattle.play_script.specs.declared.line.Meaning.TheVariants as read;
-ghost use Rattle.play_script.specs.declared.script.Event.TheVariants.{Device};
+ghost use Rattle.play_script.specs.declared.script.Event.TheVariants.{Device, Frame};
 ghost use Rattle.play_script.specs.declared.script.Version.{Version};
-ghost use Rattle.play_script.specs.declared.script.Version.TheVariants.{First as first};
 
 use crate::keyword::{Keyword, rows_of};
 use crate::script::{Clock, Event, LineStop, ScriptKind, Version};
-use crate::values::{button_bit, mouse_button_bit, one_or, text_of_values};
+use crate::values::{
+    button_bit, minutes_of, mouse_button_bit, one_or, pixel_of, seconds_of, text_of_values, turn_of,
+};
 use input_ports::Input;
 use std::alloc::{AllocError, Global};
-use text_lines::{LineFault, byte_of, first_word, integer_within, keyword_of, number_within};
+use text_lines::{LineFault, byte_of, first_word, keyword_of};
 use uxn_io_traits::Bytes;
 use uxn_limits::limits;
 
+/// The most frames or keys of a line.
+const MOST_TIMES: u32 = limits::MOST_TIMES as u32;
+
 /// The players of a controller.
-const PLAYERS: u64 = 4;
+const PLAYERS: u32 = 4;
 
 // What a line means.
 #[derive(Drop)]
@@ -84,29 +89,44 @@ fn script_meaning_of(
     ensures limits { IfOk result (λ made. IfSome made (IsScriptRead version (length values.now))) }
 {
     match keyword {
-        Keyword::Script => Ok(version_of(version, values)),
-        Keyword::Clock => Ok(clock_of_values(values)),
-        Keyword::Args => match texts_of_values(alloc, values)? {
-            Some(texts) => Ok(Some(Meaning::Arguments(texts))),
-            None => Ok(None),
-        },
-        Keyword::Input => match texts_of_values(alloc, values)? {
-            Some(texts) => Ok(Some(Meaning::Inputs(texts))),
-            None => Ok(None),
-        },
-        Keyword::End => Ok(Some(Meaning::Times(Event::EndInput, 1))),
-        Keyword::Frame => match one_or(limits::MOST_TIMES, values) {
-            Some(count) => Ok(Some(Meaning::Times(Event::Frame, count as u32))),
-            None => Ok(None),
-        },
-        Keyword::Key => Ok(keys_of(version, values)),
-        Keyword::Shot => Ok(Some(Meaning::Times(Event::Shot, 1))),
-        Keyword::Expect => Ok(expect_of(version, values)),
-        _ => match device_of(keyword, version, values) {
-            Some(input) => Ok(Some(Meaning::Times(Event::Device(input), 1))),
-            None => Ok(None),
-        },
+        Keyword::Args => Ok(texts_of_values(alloc, values)?.map(Meaning::Arguments)),
+        Keyword::Input => Ok(texts_of_values(alloc, values)?.map(Meaning::Inputs)),
+        _ => Ok(meaning_without_texts(version, keyword, values)),
     }
+}
+
+// What the values of a line without texts make.
+#[tactic(auto, unfolding(crate::specs::Rows::script_meaning_of, crate::specs::Rows::events_of_line))]
+fn meaning_without_texts(version: Version, keyword: Keyword, values: &[u8]) -> Option<Meaning>
+    requires no_arguments { keyword ≢ word.Args }
+    requires no_inputs { keyword ≢ word.Input }
+    ensures made { option_map shown result ≡ script_meaning_of keyword version (words_of values.now) }
+    ensures limits { IfSome result (IsScriptRead version 0) }
+{
+    match keyword {
+        Keyword::Script => version_of(version, values),
+        Keyword::Clock => clock_of_values(values).map(Meaning::ClockLine),
+        Keyword::End => Some(Meaning::Times(Event::EndInput, 1)),
+        Keyword::Frame => one_or(MOST_TIMES, values).map(frames),
+        Keyword::Key => keys_of(version, values),
+        Keyword::Shot => Some(Meaning::Times(Event::Shot, 1)),
+        Keyword::Expect => expect_of(version, values),
+        _ => device_of(keyword, version, values).map(by_player),
+    }
+}
+
+// So many frames.
+fn frames(count: u32) -> Meaning
+    ensures { result ≡ read.Times Frame count }
+{
+    Meaning::Times(Event::Frame, count)
+}
+
+// What the player does once.
+fn by_player(input: Input) -> Meaning
+    ensures { result ≡ read.Times (Device input) 1 }
+{
+    Meaning::Times(Event::Device(input), 1)
 }
 
 // What the player does by a keyword, if it is that of an input.
@@ -116,19 +136,33 @@ fn device_of(keyword: Keyword, version: Version, values: &[u8]) -> Option<Input>
     ensures limits { IfSome result (λ input. IsEvent version (Device input)) }
 {
     match keyword {
-        Keyword::Down => match button_in(version, values)? {
-            (mask, 1) => Some(Input::Down(mask)),
-            (mask, player) => Some(Input::DownOf(player, mask)),
-        },
-        Keyword::Up => match button_in(version, values)? {
-            (mask, 1) => Some(Input::Up(mask)),
-            (mask, player) => Some(Input::UpOf(player, mask)),
-        },
+        Keyword::Down => button_in(version, values).map(down_of),
+        Keyword::Up => button_in(version, values).map(up_of),
         Keyword::Mouse => mouse_of(values),
-        Keyword::Press => Some(Input::Press(mouse_button_in(values)?)),
-        Keyword::Release => Some(Input::Release(mouse_button_in(values)?)),
+        Keyword::Press => mouse_button_in(values).map(Input::Press),
+        Keyword::Release => mouse_button_in(values).map(Input::Release),
         Keyword::Scroll => scroll_of(values),
         _ => None,
+    }
+}
+
+// A button goes down: that of the first player, or of another.
+fn down_of(button: (u8, u8)) -> Input
+    ensures { result ≡ down_of button.0 button.1 }
+{
+    match button {
+        (mask, 1) => Input::Down(mask),
+        (mask, player) => Input::DownOf(player, mask),
+    }
+}
+
+// A button goes up: that of the first player, or of another.
+fn up_of(button: (u8, u8)) -> Input
+    ensures { result ≡ up_of button.0 button.1 }
+{
+    match button {
+        (mask, 1) => Input::Up(mask),
+        (mask, player) => Input::UpOf(player, mask),
     }
 }
 
@@ -146,16 +180,23 @@ fn version_of(version: Version, values: &[u8]) -> Option<Meaning>
     }
 }
 
-#[tactic(auto, unfolding(crate::specs::Rows::clock_of_values))]
-fn clock_of_values(values: &[u8]) -> Option<Meaning>
-    ensures made { option_map shown result ≡ option_map clock (clock_of_values (words_of values.now)) }
-    ensures limits { IfSome result (IsScriptRead first 0) }
+// The first two words.
+fn two_words(values: &[u8]) -> Option<(&[u8], &[u8])>
+    ensures { option_map (λ two. (two.0.now, two.1.now)) result ≡ two_words (words_of values.now) }
 {
-    let (seconds, more) = first_word(values)?;
-    let (offset, _) = first_word(more)?;
-    let seconds = number_within(0, limits::LAST_SECOND, seconds)? as i64;
-    let offset = integer_within(limits::LAST_OFFSET, limits::LAST_OFFSET, offset)? as i32;
-    Some(Meaning::ClockLine(Clock { seconds, offset }))
+    let (first, more) = first_word(values)?;
+    let (second, _) = first_word(more)?;
+    Some((first, second))
+}
+
+#[tactic(auto, unfolding(crate::specs::Rows::clock_of_values))]
+fn clock_of_values(values: &[u8]) -> Option<Clock>
+    ensures made { result ≡ clock_of_values (words_of values.now) }
+    ensures limits { IfSome result IsTime }
+{
+    let (seconds, offset) = two_words(values)?;
+    let time = seconds_of(seconds).zip(minutes_of(offset));
+    time.map(|(seconds, offset)| Clock { seconds, offset })
 }
 
 #[tactic(auto, unfolding(crate::specs::Rows::keys_of))]
@@ -164,9 +205,8 @@ fn keys_of(version: Version, values: &[u8]) -> Option<Meaning>
     ensures limits { IfSome result (IsScriptRead version 0) }
 {
     let (word, more) = first_word(values)?;
-    let byte = byte_of(word)?;
-    let count = further_of(version, limits::MOST_TIMES, more)? as u32;
-    Some(Meaning::Times(Event::Device(Input::Key(byte)), count))
+    let keys = byte_of(word).zip(further_of(version, MOST_TIMES, more));
+    keys.map(|(byte, count)| Meaning::Times(Event::Device(Input::Key(byte)), count))
 }
 
 #[tactic(auto, unfolding(crate::specs::Rows::expect_of))]
@@ -177,16 +217,16 @@ fn expect_of(version: Version, values: &[u8]) -> Option<Meaning>
     match version {
         Version::First => None,
         Version::Second => {
-            let (port, more) = first_word(values)?;
-            let (byte, _) = first_word(more)?;
-            Some(Meaning::Times(Event::Expect(byte_of(port)?, byte_of(byte)?), 1))
+            let (port, byte) = two_words(values)?;
+            let read = byte_of(port).zip(byte_of(byte));
+            read.map(|(port, byte)| Meaning::Times(Event::Expect(port, byte), 1))
         }
     }
 }
 
 // How often a key is struck or which player's a button is, which version 1 does not say.
 #[tactic(auto, unfolding(crate::specs::Values::one_or))]
-fn further_of(version: Version, most: u64, values: &[u8]) -> Option<u64>
+fn further_of(version: Version, most: u32, values: &[u8]) -> Option<u32>
     requires { 1 ≤ most }
     ensures number { result ≡ one_or most (further version (words_of values.now)) }
     ensures limits { IfSome result (λ number. (1 ≤ number) × (number ≤ most) × (number ≢ 1 → IsSecond version)) }
@@ -197,6 +237,15 @@ fn further_of(version: Version, most: u64, values: &[u8]) -> Option<u64>
     }
 }
 
+// The player whose a controller's button is.
+fn player_of(version: Version, values: &[u8]) -> Option<u8>
+    ensures number { result ≡ one_or 4 (further version (words_of values.now)) }
+    ensures limits { IfSome result (λ player. player ≢ 1 → IsPlayer version player) }
+{
+    let player = further_of(version, PLAYERS, values)?;
+    Some(player as u8)
+}
+
 // The bit of a controller's button, and the player whose it is.
 #[tactic(auto, unfolding(crate::specs::Rows::buttons_of))]
 fn button_in(version: Version, values: &[u8]) -> Option<(u8, u8)>
@@ -204,8 +253,7 @@ fn button_in(version: Version, values: &[u8]) -> Option<(u8, u8)>
     ensures limits { IfSome result (λ b. IsBit b.0 × (b.1 ≢ 1 → IsPlayer version b.1)) }
 {
     let (word, more) = first_word(values)?;
-    let mask = button_bit(word)?;
-    Some((mask, further_of(version, PLAYERS, more)? as u8))
+    button_bit(word).zip(player_of(version, more))
 }
 
 #[tactic(auto, unfolding(crate::specs::Rows::mouse_buttons_of))]
@@ -221,11 +269,9 @@ fn mouse_of(values: &[u8]) -> Option<Input>
     ensures input { result ≡ mouse_of (words_of values.now) }
     ensures limits { (version : Version) → IfSome result (λ input. IsEvent version (Device input)) }
 {
-    let (x, more) = first_word(values)?;
-    let (y, _) = first_word(more)?;
-    let x = number_within(0, 65535, x)? as u16;
-    let y = number_within(0, 65535, y)? as u16;
-    Some(Input::Mouse(x, y))
+    let (x, y) = two_words(values)?;
+    let at = pixel_of(x).zip(pixel_of(y));
+    at.map(|(x, y)| Input::Mouse(x, y))
 }
 
 #[tactic(auto, unfolding(crate::specs::Rows::scroll_of))]
@@ -233,11 +279,9 @@ fn scroll_of(values: &[u8]) -> Option<Input>
     ensures input { result ≡ scroll_of (words_of values.now) }
     ensures limits { (version : Version) → IfSome result (λ input. IsEvent version (Device input)) }
 {
-    let (x, more) = first_word(values)?;
-    let (y, _) = first_word(more)?;
-    let x = integer_within(32768, 32767, x)? as i16;
-    let y = integer_within(32768, 32767, y)? as i16;
-    Some(Input::Scroll(x, y))
+    let (x, y) = two_words(values)?;
+    let by = turn_of(x).zip(turn_of(y));
+    by.map(|(x, y)| Input::Scroll(x, y))
 }
 
 // The texts of a line, if each of its words is one.

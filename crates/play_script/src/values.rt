@@ -1,19 +1,23 @@
 //! What the words behind a line's first word represent.
 
-ghost use Rattle.std.specs.Prelude.{◌≡◌, ◌+◌, ◌<◌, ◌≤◌, length, find, option_copied, ◌==◌, IfOk, IfSome};
+ghost use Rattle.std.specs.Prelude.{◌≡◌, ◌+◌, ◌<◌, ◌≤◌, length, find, option_copied, option_map, pos, ◌==◌, IfOk, IfSome};
 ghost use Rattle.std.specs.Str.{bytes_eq};
 ghost use Rattle.std.specs.List.{All};
+ghost use Rattle.uxn_limits.specs.declared.limits.TheConstants.{LAST_OFFSET, LAST_SECOND};
 ghost use Rattle.text_lines.specs.Lines.{words_of};
+ghost use Rattle.text_lines.specs.Numbers.{integer_within, number_within};
 ghost use Rattle.play_script.specs.Held.{bytes_if};
 ghost use Rattle.play_script.specs.PlainText.{name_in};
-ghost use Rattle.play_script.specs.Limits.{IsBit};
+ghost use Rattle.play_script.specs.Limits.{IsBit, IsValue};
 ghost use Rattle.play_script.specs.Values.{text_of_values, bit_in, one_or};
 ghost use Rattle.play_script.specs.declared.values.TheConstants.{BUTTONS, MOUSE_BUTTONS};
+ghost use Rattle.play_script.specs.declared.values.Value.TheVariants.{Minutes, Pixel, Seconds, Turn};
 
 use hex::FromHexError;
 use std::alloc::{AllocError, Global};
-use text_lines::{begins_with, first_word, number_within};
+use text_lines::{begins_with, first_word, integer_within, number_within};
 use uxn_io_traits::Bytes;
+use uxn_limits::limits;
 
 /// A value of a line in plain text.
 #[derive(Clone, Copy)]
@@ -50,15 +54,52 @@ pub(crate) fn text_of_values(alloc: Global, word: &[u8]) -> Result<Option<Bytes>
 
 // The first word as a number from 1; it is 1 where there is no word.
 #[tactic(auto, unfolding(crate::specs::Values::one_or))]
-pub(crate) fn one_or(most: u64, values: &[u8]) -> Option<u64>
+pub(crate) fn one_or(most: u32, values: &[u8]) -> Option<u32>
     requires { 1 ≤ most }
     ensures number { result ≡ one_or most (words_of values.now) }
     ensures within { IfSome result (λ number. (1 ≤ number) × (number ≤ most)) }
 {
-    match first_word(values) {
-        None => Some(1),
-        Some((word, _)) => number_within(1, most, word),
-    }
+    let Some((word, _)) = first_word(values) else {
+        return Some(1);
+    };
+    let number = number_within(1, u64::from(most), word)?;
+    Some(number as u32)
+}
+
+// A column or row of the screen.
+pub(crate) fn pixel_of(word: &[u8]) -> Option<u16>
+    ensures pixel { result ≡ number_within 0 65535 word.now }
+    ensures within { IfSome result (λ at. IsValue (Pixel at)) }
+{
+    let at = number_within(0, 65535, word)?;
+    Some(at as u16)
+}
+
+// How far a wheel was turned.
+pub(crate) fn turn_of(word: &[u8]) -> Option<i16>
+    ensures turn { result ≡ integer_within 32768 32767 word.now }
+    ensures within { IfSome result (λ steps. IsValue (Turn steps)) }
+{
+    let steps = integer_within(32768, 32767, word)?;
+    Some(steps as i16)
+}
+
+// The seconds of a clock.
+pub(crate) fn seconds_of(word: &[u8]) -> Option<i64>
+    ensures seconds { result ≡ option_map pos (number_within 0 LAST_SECOND word.now) }
+    ensures within { IfSome result (λ seconds. IsValue (Seconds seconds)) }
+{
+    let seconds = number_within(0, limits::LAST_SECOND, word)?;
+    Some(seconds as i64)
+}
+
+// The minutes by which a clock is ahead.
+pub(crate) fn minutes_of(word: &[u8]) -> Option<i32>
+    ensures minutes { result ≡ integer_within LAST_OFFSET LAST_OFFSET word.now }
+    ensures within { IfSome result (λ minutes. IsValue (Minutes minutes)) }
+{
+    let minutes = integer_within(limits::LAST_OFFSET, limits::LAST_OFFSET, word)?;
+    Some(minutes as i32)
 }
 
 /// A row of a table of buttons: the name of one, and its bit.
