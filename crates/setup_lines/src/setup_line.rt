@@ -1,9 +1,12 @@
 //! What a line of a setup gives.
 
-ghost use Rattle.std.specs.Prelude.{◌≡◌, IfOk, IfSome};
+ghost use Rattle.std.specs.Prelude.{◌≡◌, ◌∷◌, option_map, IfOk, IfSome};
+ghost use Rattle.uxn_limits.specs.declared.limits.TheConstants.{GREATEST_BUDGET};
 ghost use Rattle.text_lines.specs.Lines.{words_of};
-ghost use Rattle.setup_lines.specs.Limits.{IsWithin};
-ghost use Rattle.setup_lines.specs.SetupLines.{setup_line_of, setup_of_values, turns_of};
+ghost use Rattle.text_lines.specs.Numbers.{number_within};
+ghost use Rattle.setup_lines.specs.Limits.{IsBudget, IsWithin};
+ghost use Rattle.setup_lines.specs.SetupLines.{setup_line_of, setup_of_values};
+ghost use Rattle.setup_lines.specs.declared.keyword.Keyword.TheVariants as word;
 ghost use Rattle.setup_lines.specs.declared.setup_line.SetupLine.TheVariants.{Turn};
 
 use crate::keyword::{Keyword, rows};
@@ -48,24 +51,29 @@ fn setup_of_values(keyword: Keyword, values: &[u8]) -> Option<SetupLine>
 {
     let (word, more) = first_word(values)?;
     match keyword {
-        Keyword::Machine => Some(SetupLine::Machine(Path::read(word).ok()?)),
-        Keyword::Script => Some(SetupLine::Script(Path::read(word).ok()?)),
-        Keyword::Budget => {
-            let budget = number_within(1, limits::GREATEST_BUDGET, word)?;
-            Some(SetupLine::Budget(budget as u32))
-        }
-        Keyword::Turn => {
-            let (count, _) = first_word(more)?;
-            Some(SetupLine::Turn(turns_of(word, count)?))
-        }
+        Keyword::Machine => Path::read(word).ok().map(SetupLine::Machine),
+        Keyword::Script => Path::read(word).ok().map(SetupLine::Script),
+        Keyword::Budget => budget_of(word).map(SetupLine::Budget),
+        Keyword::Turn => turns_of(word, more).map(SetupLine::Turn),
     }
 }
 
-// Turns of a machine, by the words for its number and for theirs.
-fn turns_of(machine: &[u8], count: &[u8]) -> Option<Turns>
-    ensures turns { result ≡ turns_of machine.now count.now }
+// The budget that a word says.
+fn budget_of(word: &[u8]) -> Option<u32>
+    ensures budget { result ≡ number_within 1 GREATEST_BUDGET word.now }
+    ensures limits { IfSome result IsBudget }
+{
+    let budget = number_within(1, limits::GREATEST_BUDGET, word)?;
+    Some(budget as u32)
+}
+
+// Turns of a machine, by the word for its number and the values behind it.
+#[tactic(auto, unfolding(crate::specs::SetupLines::setup_of_values))]
+fn turns_of(machine: &[u8], more: &[u8]) -> Option<Turns>
+    ensures turns { option_map Turn result ≡ setup_of_values word.Turn (machine.now ∷ words_of more.now) }
     ensures limits { IfSome result (λ turns. IsWithin (Turn turns)) }
 {
+    let (count, _) = first_word(more)?;
     let machine = number_within(1, limits::MOST_MACHINES as u64, machine)? as u8;
     let count = number_within(1, limits::TURNS_OF_LINE, count)? as u32;
     Some(Turns { machine, count })
