@@ -65,13 +65,13 @@ impl Command {
     {
         match self {
             Command::Play | Command::Debug => requested_run(alloc, self, found),
-            Command::Assemble => Ok(Task::Assemble(assemble_task(alloc, found)?)),
-            Command::Disassemble => Ok(Task::Disassemble(disassemble_task(alloc, found)?)),
+            Command::Assemble => assemble_task(alloc, found).map(Task::Assemble),
+            Command::Disassemble => disassemble_task(alloc, found).map(Task::Disassemble),
             Command::Generate => match requested_count(found.operand()) {
                 Some(count) => Ok(Task::Generate(count)),
                 None => Err(WordStop::Refused(WordFault::NotUnderstood)),
             },
-            Command::Line => Ok(Task::Line(required_path(alloc, found, OPERAND)?)),
+            Command::Line => required_path(alloc, found, OPERAND).map(Task::Line),
         }
     }
 }
@@ -123,7 +123,7 @@ fn optional_path(alloc: Global, found: &Found<'_>, name: &str) -> Result<Option<
     ensures { ReadsArguments result (optional_path (found_value found.now) name.now) }
 {
     match found.value(name) {
-        Some(word) => Ok(Some(requested_path(alloc, word)?)),
+        Some(word) => requested_path(alloc, word).map(Some),
         None => Ok(None),
     }
 }
@@ -152,7 +152,7 @@ fn debugger(
     ensures { ReadsArguments result (debugger_of command (found_value found.now)) }
 {
     match command {
-        Command::Debug => Ok(Some(debug_task(alloc, found)?)),
+        Command::Debug => debug_task(alloc, found).map(Some),
         Command::Play
         | Command::Assemble
         | Command::Disassemble

@@ -1,8 +1,8 @@
 //! What is to be done, and which of the files that it names clash.
 ghost use Rattle.std.specs.Prelude.{◌≡◌, ◌++◌, IfOk, OnOk, find, option_copied, option_to_list};
-ghost use Rattle.std.specs.List.{list_any};
+ghost use Rattle.std.specs.List.{flat_map, list_any};
 ghost use Rattle.std.specs.Str.{bytes_eq};
-ghost use Rattle.uxn_arguments.specs.Options.{debug_inputs, inputs_of, log_of, outputs_of, root_of, run_outputs};
+ghost use Rattle.uxn_arguments.specs.Options.{inputs_of, log_of, outputs_of, root_of, run_outputs};
 ghost use Rattle.uxn_arguments.specs.Places.{places_of, meets, clashes, first_clash};
 
 use std::alloc::{AllocError, Global};
@@ -82,22 +82,13 @@ impl Task {
     fn inputs(&self, alloc: Global) -> Result<Vec<Path>, AllocError>
         ensures { IfOk result (λ paths. paths.items ≡ inputs_of self.now) }
     {
-        let mut paths = Vec::new(alloc);
         match self {
-            Task::Run(run, debug) => {
-                paths.push(run.file)?;
-                push_debug_inputs(&mut paths, debug)?;
-                push_some(&mut paths, &run.script)?;
-            }
-            Task::Assemble(task) => paths.push(task.file)?,
-            Task::Disassemble(task) => {
-                paths.push(task.file)?;
-                push_some(&mut paths, &task.symbols)?;
-            }
-            Task::Generate(_) => {}
-            Task::Line(file) => paths.push(*file)?,
+            Task::Run(run, debug) => run_inputs(alloc, run, debug),
+            Task::Assemble(task) => some_of(alloc, &[Some(task.file)]),
+            Task::Disassemble(task) => some_of(alloc, &[Some(task.file), task.symbols]),
+            Task::Generate(_) => Ok(Vec::new(alloc)),
+            Task::Line(file) => some_of(alloc, &[Some(*file)]),
         }
-        Ok(paths)
     }
 
     /// The files that it writes, in order. Errors when out of memory.
@@ -128,10 +119,18 @@ impl Task {
     pub fn first_clash(&self, alloc: Global) -> Result<Option<Path>, AllocError>
         ensures { IfOk result (λ found. found ≡ first_clash self.now) }
     {
-        let inputs = self.inputs(alloc)?;
         let outputs = self.outputs(alloc)?;
-        let places = self.places(alloc, &outputs)?;
-        Ok(clash_in(&inputs, &places, &outputs).copied())
+        self.first_clash_in(alloc, &outputs)
+    }
+
+    /// The first of its outputs that clashes. Errors when out of memory.
+    fn first_clash_in(&self, alloc: Global, outputs: &[Path]) -> Result<Option<Path>, AllocError>
+        requires { outputs.now ≡ outputs_of self.now }
+        ensures { IfOk result (λ found. found ≡ first_clash self.now) }
+    {
+        let inputs = self.inputs(alloc)?;
+        let places = self.places(alloc, outputs)?;
+        Ok(clash_in(&inputs, &places, outputs).copied())
     }
 }
 
@@ -145,25 +144,43 @@ fn push_some(paths: &mut Vec<Path>, path: &Option<Path>) -> Result<(), AllocErro
     Ok(())
 }
 
-/// Puts the files that a debugger reads behind others.
-fn push_debug_inputs(paths: &mut Vec<Path>, debug: &Option<DebugTask>) -> Result<(), AllocError>
-    ensures { OnOk result (paths.new.items ≡ paths.old.items ++ debug_inputs debug.now) }
+/// The paths that there are, in order. Errors when out of memory.
+fn some_of(alloc: Global, paths: &[Option<Path>]) -> Result<Vec<Path>, AllocError>
+    ensures { IfOk result (λ found. found.items ≡ flat_map option_to_list paths.now) }
 {
-    if let Some(debug) = debug {
-        paths.push(debug.commands)?;
-        push_some(paths, &debug.symbols)?;
+    let mut found = Vec::new(alloc);
+    for path in paths {
+        push_some(&mut found, path)?;
     }
-    Ok(())
+    Ok(found)
 }
 
-/// Puts the log of a debugger behind others.
-fn push_log(paths: &mut Vec<Path>, debug: &Option<DebugTask>) -> Result<(), AllocError>
-    ensures { OnOk result (paths.new.items ≡ paths.old.items ++ option_to_list (log_of debug.now)) }
+/// The files that a run reads. Errors when out of memory.
+fn run_inputs(
+    alloc: Global,
+    run: &RunTask,
+    debug: &Option<DebugTask>,
+) -> Result<Vec<Path>, AllocError>
+    ensures { IfOk result (λ paths. paths.items ≡ inputs_of (Task.Run run.now debug.now)) }
 {
-    if let Some(debug) = debug {
-        paths.push(debug.log)?;
+    let file = Some(run.file);
+    match debug {
+        Some(debug) => {
+            let commands = Some(debug.commands);
+            some_of(alloc, &[file, commands, debug.symbols, run.script])
+        }
+        None => some_of(alloc, &[file, run.script]),
     }
-    Ok(())
+}
+
+/// The log of a debugger.
+fn log_of(debug: &Option<DebugTask>) -> Option<Path>
+    ensures { result ≡ log_of debug.now }
+{
+    match debug {
+        Some(debug) => Some(debug.log),
+        None => None,
+    }
 }
 
 /// The files that a run writes, in order. Errors when out of memory.
@@ -174,23 +191,15 @@ pub fn run_outputs(
 ) -> Result<Vec<Path>, AllocError>
     ensures { IfOk result (λ paths. paths.items ≡ run_outputs run.now debug.now) }
 {
-    let mut paths = Vec::new(alloc);
-    push_log(&mut paths, debug)?;
-    push_some(&mut paths, &run.frames)?;
-    push_some(&mut paths, &run.samples)?;
-    push_some(&mut paths, &run.report)?;
-    Ok(paths)
+    let log = log_of(debug);
+    some_of(alloc, &[log, run.frames, run.samples, run.report])
 }
 
 /// The files that are written out of a source, in order. Errors when out of memory.
 fn assemble_outputs(alloc: Global, task: &AssembleTask) -> Result<Vec<Path>, AllocError>
     ensures { IfOk result (λ paths. paths.items ≡ outputs_of (Task.Assemble task.now)) }
 {
-    let mut paths = Vec::new(alloc);
-    paths.push(task.out)?;
-    push_some(&mut paths, &task.symbols)?;
-    push_some(&mut paths, &task.listing)?;
-    Ok(paths)
+    some_of(alloc, &[Some(task.out), task.symbols, task.listing])
 }
 
 /// Whether two paths are the same.
