@@ -107,9 +107,9 @@ impl Machine {
         ensures { IfOk result (λ machine. (script : ScriptView) → script.arguments ≡ bytes_in arguments.now → script.clock ≡ clock
             → MachineRepresents machine (first_place budget rom.now script)) }
     {
+        let core = Core::new(alloc, rom)?;
         let mut devices = Devices::new(alloc, None, clock_of(clock))?;
         make_ready(&mut devices, arguments);
-        let core = Core::new(alloc, rom)?;
         Ok(Machine {
             core,
             devices,

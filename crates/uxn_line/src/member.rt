@@ -52,9 +52,11 @@ impl Member {
             → MemberAt member (first_place budget rom.now script)) }
         ensures ring { IfOk result (λ member. member.ring ≡ buffer [] 256) }
     {
+        let ring = HeapCircularBuffer::with_capacity(alloc, ROOM)?;
+        let machine = Machine::new(alloc, rom, arguments, clock, budget)?;
         Ok(Member {
-            machine: Machine::new(alloc, rom, arguments, clock, budget)?,
-            ring: HeapCircularBuffer::with_capacity(alloc, ROOM)?,
+            machine,
+            ring,
             all_given,
             state: 0,
         })
