@@ -3,6 +3,10 @@ use Rattle.uxn_line.proofs.Common.{common_steps, arith, pos, slice_index_or, get
 use Rattle.uxn_line.proofs.Common.{zero, suc, ◌<◌, inl, inr, Bool, true, false, List, [], ◌∷◌, ◌++◌, get_or, length, refl, sym, ap, ◌∙◌, Some}
 use Rattle.uxn_line.proofs.Common.{slice_get, cases_eq, buffer, ByteList, bytes_in, Member, LineJob, script_at, rom_at, first_place, stream, MemberAt}
 use Rattle.uxn_line.proofs.Common.{none_turned, RingBefore, InLine, inputs}
+use Rattle.uxn_line.proofs.Common.{Result, Ok, Err}
+use Rattle.std.specs.Prelude.{IfOk}
+use Rattle.play_script.specs.Scripts.{ScriptView}
+use Rattle.play_script.specs.declared.script.Clock.{Clock}
 use Rattle.uxn_line.proofs.Coming.{all-inputs, inputs-some}
 
 -- nothing was given yet
@@ -16,6 +20,22 @@ pub new-in-line : (job : LineJob) (machine : ℕ) (member : Member)
     → MemberAt member (first_place job.budget (rom_at job machine) (script_at job machine)) → member.ring ≡ buffer [] 256
     → InLine job none_turned machine member
 new-in-line = grind (arith, common_steps, new-ring)
+
+-- the same by an equal budget and an equal ROM
+place-is : (member : Member) (script : ScriptView) (budget other : ℕ) (rom text : List ℕ) → budget ≡ other → rom ≡ text
+    → MemberAt member (first_place other text script) → MemberAt member (first_place budget rom script)
+place-is member script budget other rom text same equal at = rw (same, equal) at
+
+-- what a new machine of a ROM begins with is what a line gives it at a place
+pub begins-in-line : {E : Type 0} (result : Result Member E) (script : ScriptView) (budget machine : ℕ) (rom : List ℕ)
+    (texts : List (List ℕ)) (clock : Clock) (all_given : Bool)
+    → IfOk result (λ member. (own : ScriptView) → BeginsWith own texts clock all_given → MemberAt member (first_place budget rom own))
+    → IfOk result (λ member. member.ring ≡ buffer [] 256)
+    → ((job : LineJob) → job.script ≡ script → BeginsWith (script_at job machine) texts clock all_given)
+    → IfOk result (λ member. (job : LineJob) → job.script ≡ script → job.budget ≡ budget → rom_at job machine ≡ rom → InLine job none_turned machine member)
+begins-in-line (Ok member) script budget machine rom texts clock all_given stands ring begins = λ job is_script is_budget is_rom.
+    new-in-line job machine member (place-is member (script_at job machine) _ _ _ _ is_budget is_rom (stands (script_at job machine) (begins job is_script))) ring
+begins-in-line (Err want) script budget machine rom texts clock all_given stands ring begins = tt
 
 -- a machine behind another begins with nothing of the script, and is given something
 pub behind-begins : (job : LineJob) (machine : ℕ) → machine ≢ 0

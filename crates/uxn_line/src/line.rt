@@ -8,9 +8,10 @@ ghost use Rattle.vector_loop.specs.Places.{PlaceHasEnded};
 ghost use Rattle.vector_loop.specs.PendingInputs.{pending_inputs_of};
 ghost use Rattle.play_script.specs.Held.{bytes_in};
 ghost use Rattle.play_script.specs.Limits.{IsTime};
-ghost use Rattle.uxn_line.specs.Streams.{LineJob, AreOfConsole, script_at};
+ghost use Rattle.uxn_line.specs.Streams.{LineJob, AreOfConsole, rom_at, script_at};
 ghost use Rattle.uxn_line.specs.Members.{BeginsWith, IsOpen};
-ghost use Rattle.uxn_line.specs.Standing.{Turned, none_turned, machine_place, LineRepresents, line_job};
+ghost use Rattle.uxn_line.specs.Standing.{Turned, none_turned, machine_place, InLine, LineRepresents, line_job};
+ghost use Rattle.uxn_line.specs.declared.member.Member.{Member as LineMember};
 ghost use Rattle.uxn_line.specs.Handing.{HandsOn};
 ghost use Rattle.uxn_line.specs.Moves.{Came, Fails, Goes, MachineIsHeld, IsUnderWay, IsWaiting, StaysUnderWay, TurnCame, is_move, turned_by};
 
@@ -72,11 +73,7 @@ impl<'a> Line<'a> {
         ensures under_way { IfOk result (λ line. (out : SinkState) → IsUnderWay (line_job roms.now script.now budget) out line out) }
     {
         let input_queue = InputQueue::new(script);
-        let mut members = Vec::with_capacity(alloc, roms.len())?;
-        for (index, rom) in roms.iter().enumerate() {
-            let (arguments, clock, all_given) = start_of(index, script, input_queue.is_empty());
-            members.push(Member::new(alloc, rom.as_slice(), arguments, clock, budget, all_given)?)?;
-        }
+        let members = members_of(alloc, roms, script, budget, input_queue.is_empty())?;
         Ok(Line {
             members,
             input_queue,
@@ -218,6 +215,47 @@ impl<'a> Line<'a> {
         self.members[0].give(pending_input, last, self.budget);
         Moved::Gave
     }
+}
+
+// The machines of a line of the ROMs, of which none has had a turn. `nothing` says whether the script gives nothing.
+fn members_of(
+    alloc: Global,
+    roms: &[Bytes],
+    script: &Script,
+    budget: u32,
+    nothing: bool,
+) -> Result<Vec<Member>, AllocError>
+    requires small { All (λ rom. length rom.list ≤ largest_rom) roms.now }
+    requires some { 1 ≤ budget }
+    requires given { (nothing ≡ true) ↔ (pending_inputs_of script.now ≡ []) }
+    ensures count { IfOk result (λ members. length members.items ≡ length roms.now) }
+    ensures each { IfOk result (λ members. (machine : ℕ) (member : LineMember) → slice_get members.items machine ≡ Some member
+        → InLine (line_job roms.now script.now budget) none_turned machine member) }
+{
+    let mut members = Vec::with_capacity(alloc, roms.len())?;
+    for (index, rom) in roms.iter().enumerate() {
+        members.push(member_at(alloc, index, rom, script, budget, nothing)?)?;
+    }
+    Ok(members)
+}
+
+// The machine at a place of a line, from 0, before its first turn.
+fn member_at(
+    alloc: Global,
+    index: usize,
+    rom: &Bytes,
+    script: &Script,
+    budget: u32,
+    nothing: bool,
+) -> Result<Member, AllocError>
+    requires small { length rom.now.list ≤ largest_rom }
+    requires some { 1 ≤ budget }
+    requires given { (nothing ≡ true) ↔ (pending_inputs_of script.now ≡ []) }
+    ensures { IfOk result (λ member. (job : LineJob) → job.script ≡ script.now → job.budget ≡ budget → rom_at job index ≡ rom.now.list
+        → InLine job none_turned index member) }
+{
+    let (arguments, clock, all_given) = start_of(index, script, nothing);
+    Member::new(alloc, rom.as_slice(), arguments, clock, budget, all_given)
 }
 
 // What the machine at a place of a line begins with, from 0: its arguments, its clock, and whether nothing is given to it. The first one

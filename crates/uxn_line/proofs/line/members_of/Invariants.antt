@@ -1,5 +1,5 @@
 use Rattle.uxn_line.proofs.Common.{◌≡◌, ℕ, length, Some, slice_get, Member, InLine, none_turned, line_job}
-use Rattle.uxn_line.proofs.line.Line.new.Given as goal
+use Rattle.uxn_line.proofs.line.members_of.Given as goal
 
 abbrev pub invariant-loop-index : goal.invariant-loop-index
 invariant-loop-index l = record {
