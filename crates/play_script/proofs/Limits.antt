@@ -10,17 +10,13 @@ use Rattle.play_script.specs.declared.script.Version.{Version}
 use Rattle.play_script.specs.Limits.{IsEvent}
 use Rattle.play_script.specs.Rows.{inputs_of}
 
-inputs_hold : (number : Version) (each : List (List ℕ)) → All (All (λ byte. byte < 256)) each → All (IsEvent number) (inputs_of each)
+pub inputs_hold : (number : Version) (each : List (List ℕ)) → All (All (λ byte. byte < 256)) each → All (IsEvent number) (inputs_of each)
 inputs_hold number [] small = All-nil (IsEvent number)
 inputs_hold number (text ∷ each) small =
     let given : (byte : ℕ) → byte < 256 → IsEvent number (Input byte) = λ byte is. record { within = (is, tt); belongs = tt } in
     All-append (IsEvent number) (map Input text) (inputs_of each)
     (All-map (IsEvent number) Input text (All-weaker (λ byte. byte < 256) (λ byte. IsEvent number (Input byte)) given text (All-head (All (λ byte. byte < 256)) text each small)))
     (inputs_hold number each (All-tail (All (λ byte. byte < 256)) text each small))
-
-pub put_inputs : (number : Version) (before items : List Event) (each : List (List ℕ)) → items ≡ before ++ inputs_of each
-    → All (IsEvent number) before → All (All (λ byte. byte < 256)) each → All (IsEvent number) items
-put_inputs number before items each is valid small = rw is (All-append (IsEvent number) before (inputs_of each) valid (inputs_hold number each small))
 
 pub pushed_times : (number : Version) (before : List Event) (given : Event) (count : ℕ) → All (IsEvent number) before → IsEvent number given
     → All (IsEvent number) (before ++ replicate count given)

@@ -102,6 +102,7 @@ impl Model for Gathered {
 
 impl Gathered {
     ghost use Rattle.std.specs.Prelude.{◌≤◌, [], length, replicate};
+    ghost use Rattle.std.specs.List.{All};
     ghost use Rattle.uxn_limits.specs.declared.limits.TheConstants.{TEXT_LIMIT};
     ghost use Rattle.text_lines.specs.Lines.{words_of};
     ghost use Rattle.play_script.specs.Rows.{version, clock, arguments, events, script_line_of};
@@ -186,11 +187,18 @@ impl Gathered {
         ensures { TakesMeaning self.old (events (inputs_of (bytes_in texts.items))) result self.new }
     {
         let given = inputs_of(alloc, &texts)?;
+        self.take_events(&given)
+    }
+
+    fn take_events(&mut self, given: &[Event]) -> Result<(), LineStop>
+        requires { All (IsEvent self.old.version) given.now }
+        ensures { TakesMeaning self.old (events given.now) result self.new }
+    {
         if given.len() > limits::MOST_EVENTS - self.events.len() {
             return Err(LineStop::Faulty(ScriptKind::ManyEvents));
         }
         self.begun = true;
-        self.events.extend_from_slice(&given)?;
+        self.events.extend_from_slice(given)?;
         Ok(())
     }
 
