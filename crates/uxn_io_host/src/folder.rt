@@ -6,7 +6,7 @@ ghost use Rattle.uxn_io_traits.specs.Unknown.{exactly};
 ghost use Rattle.uxn_io_traits.specs.Children.{IsEntry};
 
 use std::alloc::{AllocError, Global};
-use std::fs::{File, OpenOptions};
+use std::fs::{DirEntry, File, OpenOptions};
 use std::io::{ErrorKind, Read, Seek, SeekFrom, Write};
 use std::rt::Files;
 use std::{fs, io, str};
@@ -244,18 +244,40 @@ impl<R: Files + AllocGlobal + Clone + Drop> CurrentFolder<'_, R> {
         ensures { IfOk result (λ entries. All IsEntry entries.items) }
     {
         let mut entries = Vec::new(alloc);
-        let mut left = MOST_ENTRIES;
-        for found in fs::read_dir(self.rt, text(folder)?)? {
-            let Some(fewer) = left.checked_sub(1) else {
-                return Err(io::Error::from(ErrorKind::FileTooLarge));
-            };
-            left = fewer;
-            if let Some(entry) = self.entry(folder, found?.file_name())? {
-                add(&mut entries, entry)?;
-            }
-        }
+        self.add_entries(&mut entries, folder)?;
         sort(&mut entries)?;
         Ok(entries)
+    }
+
+    /// Adds the entries of a folder, in the order in which they are found.
+    fn add_entries(&self, entries: &mut Vec<Entry>, folder: &Path) -> io::Result<()>
+        requires { All IsEntry entries.old.items }
+        ensures { All IsEntry entries.new.items }
+    {
+        for (place, found) in fs::read_dir(self.rt, text(folder)?)?.enumerate() {
+            if place == MOST_ENTRIES {
+                return Err(io::Error::from(ErrorKind::FileTooLarge));
+            }
+            self.add_found(entries, folder, found)?;
+        }
+        Ok(())
+    }
+
+    /// Adds what is listed of what was found in a folder.
+    fn add_found(
+        &self,
+        entries: &mut Vec<Entry>,
+        folder: &Path,
+        found: io::Result<DirEntry<R>>,
+    ) -> io::Result<()>
+        requires { All IsEntry entries.old.items }
+        ensures { All IsEntry entries.new.items }
+    {
+        let listed = self.entry(folder, found?.file_name())?;
+        if let Some(entry) = listed {
+            add(entries, entry)?;
+        }
+        Ok(())
     }
 }
 

@@ -1,0 +1,7 @@
+-- What was listed are entries.
+use Rattle.std.specs.List.{All}
+use Rattle.uxn_io_traits.specs.Children.{IsEntry}
+use Rattle.uxn_io_host.proofs.folder.CurrentFolder.add_entries.Given as goal
+
+abbrev pub invariant-loop-place : goal.invariant-loop-place
+invariant-loop-place g l = All IsEntry l.entries.items
