@@ -1,5 +1,6 @@
 //! The summary of a workload.
-ghost use Rattle.std.specs.Prelude.{◌≡◌, ◌++◌, IfOk, OnOk, decimal};
+ghost use Rattle.std.specs.Prelude.{◌≡◌, ◌++◌, IfOk, OnOk, codes, decimal};
+ghost use Rattle.std.specs.List.{flat_map};
 ghost use Rattle.uxn_workload.specs.Summary.{line, digits, summary_of, summary_text};
 
 use std::alloc::{AllocError, Global};
@@ -36,32 +37,46 @@ fn push_count(text: &mut Vec<u8>, name: &[u8], count: u64) -> Result<(), AllocEr
     text.extend_from_slice(b"\n")
 }
 
-/// Puts bytes as pairs of digits behind a text.
-fn push_digits(text: &mut Vec<u8>, bytes: &[u8]) -> Result<(), AllocError>
-    ensures { OnOk result (text.new.items ≡ text.old.items ++ digits bytes.now) }
+/// Puts lines, each with a name and a number, behind a text.
+fn push_counts(text: &mut Vec<u8>, counts: &[(&[u8], u64)]) -> Result<(), AllocError>
+    ensures { OnOk result (text.new.items
+        ≡ text.old.items ++ flat_map (λ count. line count.0.now (decimal count.1)) counts.now) }
 {
-    for byte in bytes {
-        text.extend_from_slice(&hex_byte(*byte))?;
+    for (name, count) in counts {
+        push_count(text, name, *count)?;
     }
     Ok(())
 }
 
+/// Puts the line of what was written to the standard output, as pairs of digits, behind a text.
+fn push_console(text: &mut Vec<u8>, bytes: &[u8]) -> Result<(), AllocError>
+    ensures { OnOk result (text.new.items ≡ text.old.items ++ line (codes "console") (digits bytes.now)) }
+{
+    text.extend_from_slice(b"console ")?;
+    for byte in bytes {
+        text.extend_from_slice(&hex_byte(*byte))?;
+    }
+    text.extend_from_slice(b"\n")
+}
+
 impl Ran<'_> {
     /// The summary: eight lines. Errors when out of memory.
-    #[tactic(auto, unfolding(crate::specs::Summary::summary_text))]
     pub fn summary(&self, alloc: Global) -> Result<Vec<u8>, AllocError>
         ensures { IfOk result (λ text. text.items ≡ summary_text (summary_of self.now)) }
     {
         let mut text = Vec::new(alloc);
-        push_count(&mut text, b"source", self.source)?;
-        push_count(&mut text, b"rom", self.rom)?;
-        push_count(&mut text, b"instructions", self.instructions)?;
-        push_count(&mut text, b"vectors", self.vectors)?;
-        push_count(&mut text, b"cuts", self.cuts)?;
-        push_count(&mut text, b"frames", self.frames)?;
-        text.extend_from_slice(b"console ")?;
-        push_digits(&mut text, self.console)?;
-        text.extend_from_slice(b"\n")?;
+        push_counts(
+            &mut text,
+            &[
+                (b"source", self.source),
+                (b"rom", self.rom),
+                (b"instructions", self.instructions),
+                (b"vectors", self.vectors),
+                (b"cuts", self.cuts),
+                (b"frames", self.frames),
+            ],
+        )?;
+        push_console(&mut text, self.console)?;
         push_count(&mut text, b"exit", u64::from(self.exit))?;
         Ok(text)
     }
