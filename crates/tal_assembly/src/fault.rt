@@ -1,8 +1,9 @@
 //! What can be wrong with a source and its includes.
 
-ghost use Rattle.std.specs.Prelude.{◌≡◌, IfOk};
+ghost use Rattle.std.specs.Prelude.{◌≡◌, ◌++◌, IfOk};
 ghost use Rattle.uxn_io_traits.specs.ByteList.{tight};
-ghost use Rattle.tal_assembly.specs.Lines.{message_of};
+ghost use Rattle.tal_include.specs.Includes.{include_kind_name};
+ghost use Rattle.tal_assembly.specs.Lines.{file_text, message_of};
 ghost use Rattle.tal_assembly.specs.Sources.{include_source_fault, other_path, own_fault};
 
 use std::alloc::{AllocError, Global};
@@ -59,19 +60,38 @@ impl SourceFault {
     pub fn message(&self, alloc: Global) -> Result<Vec<u8>, AllocError>
         ensures { IfOk result (λ made. made.items ≡ message_of self.now) }
     {
-        let mut text = Vec::from_slice(alloc, b"source ")?;
-        if let Some(path) = &self.file {
-            text.extend_from_slice(path.bytes())?;
-            text.push(b' ')?;
+        let (path, space) = self.file_pieces();
+        [
+            b"source ".as_slice(),
+            path,
+            space,
+            decimal(u64::from(self.line)).as_slice(),
+            b":",
+            decimal(u64::from(self.column)).as_slice(),
+            b": ",
+            self.kind_name(),
+            b": ",
+            self.word.as_slice(),
+        ]
+        .as_slice()
+        .concat(alloc)
+    }
+
+    /// The path of the file in which the word stands and a space, where that is not the main source.
+    fn file_pieces(&self) -> (&[u8], &[u8])
+        ensures { result.0.now ++ result.1.now ≡ file_text self.now.file }
+    {
+        match &self.file {
+            Some(path) => (path.bytes(), b" "),
+            None => (b"", b""),
         }
-        text.extend_from_slice(&decimal(u64::from(self.line)))?;
-        text.push(b':')?;
-        text.extend_from_slice(&decimal(u64::from(self.column)))?;
-        text.extend_from_slice(b": ")?;
-        text.extend_from_slice(self.kind.name().as_bytes())?;
-        text.extend_from_slice(b": ")?;
-        text.extend_from_slice(self.word.as_slice())?;
-        Ok(text)
+    }
+
+    /// What is wrong, in words.
+    fn kind_name(&self) -> &[u8]
+        ensures { result.now ≡ include_kind_name self.now.kind }
+    {
+        self.kind.name().as_bytes()
     }
 }
 
