@@ -1,6 +1,7 @@
 //! What commands print.
 
 ghost use Rattle.std.specs.Prelude.{◌≡◌, ◌≤◌, ◌++◌, ℕ, List, length, if◌then◌else◌, ◌==◌, ◌||◌, ◌%◌, ◌+◌, [], OnOk};
+ghost use Rattle.std.specs.List.{flat_map};
 ghost use Rattle.vector_loop.specs.Watch.{Page, IsPage};
 ghost use Rattle.tal_symbols.specs.Lookups.{nearest_label};
 ghost use Rattle.system_port.specs.DebugText.{spaced};
@@ -66,21 +67,17 @@ pub(crate) fn put_printed<P: Ports>(
 fn put_address_line(log: &mut Vec<u8>, word: &[u8], address: u16) -> Result<(), AllocError>
     ensures { OnOk result (log.new.items ≡ log.old.items ++ address_line word.now address) }
 {
-    log.extend_from_slice(word)?;
-    log.push(b' ')?;
-    log.extend_from_slice(&hex_short(address))?;
-    log.push(b'\n')?;
-    Ok(())
+    put_all(log, &[word, b" ", &hex_short(address), b"\n"])
 }
 
 // Prints how many moments back one could have gone.
 fn put_held(log: &mut Vec<u8>, reach: u32) -> Result<(), AllocError>
     ensures { OnOk result (log.new.items ≡ log.old.items ++ held_line reach) }
 {
-    log.extend_from_slice(b"held ")?;
-    log.extend_from_slice(decimal(u64::from(reach)).as_slice())?;
-    log.push(b'\n')?;
-    Ok(())
+    put_all(
+        log,
+        &[b"held ", decimal(u64::from(reach)).as_slice(), b"\n"],
+    )
 }
 
 // Prints the place line.
@@ -110,20 +107,34 @@ fn put_place_line(
 {
     match place {
         Place::Before(moment) => {
-            log.extend_from_slice(b"at ")?;
-            log.extend_from_slice(&hex_short(moment.address))?;
-            log.push(b' ')?;
-            log.extend_from_slice(decimal(moment.instructions).as_slice())?;
-            log.push(b' ')?;
-            log.extend_from_slice(op_name(opcode).as_slice())?;
+            put_all(
+                log,
+                &[
+                    b"at ",
+                    &hex_short(moment.address),
+                    b" ",
+                    decimal(moment.instructions).as_slice(),
+                    b" ",
+                    op_name(opcode).as_slice(),
+                ],
+            )?;
             put_label(log, labels, moment.address)?;
+            log.extend_from_slice(b"\n")
         }
-        Place::End(last) => {
-            log.extend_from_slice(b"end ")?;
-            log.extend_from_slice(decimal(last.instructions).as_slice())?;
-        }
+        Place::End(last) => put_all(
+            log,
+            &[b"end ", decimal(last.instructions).as_slice(), b"\n"],
+        ),
     }
-    log.push(b'\n')?;
+}
+
+// Prints pieces one after the other.
+fn put_all(log: &mut Vec<u8>, pieces: &[&[u8]]) -> Result<(), AllocError>
+    ensures { OnOk result (log.new.items ≡ log.old.items ++ flat_map (λ piece. piece.now) pieces.now) }
+{
+    for piece in pieces {
+        log.extend_from_slice(piece)?;
+    }
     Ok(())
 }
 
@@ -134,11 +145,15 @@ fn put_label(log: &mut Vec<u8>, labels: &[Label], address: u16) -> Result<(), Al
     let Some(label) = nearest(labels, address) else {
         return Ok(());
     };
-    log.push(b' ')?;
-    log.extend_from_slice(label.name.bytes())?;
-    log.push(b'+')?;
-    log.extend_from_slice(&hex_short(address - label.address))?;
-    Ok(())
+    put_all(
+        log,
+        &[
+            b" ",
+            label.name.bytes(),
+            b"+",
+            &hex_short(address - label.address),
+        ],
+    )
 }
 
 // Prints so many bytes of memory from an address on.
