@@ -194,13 +194,13 @@ disassembly_assembles rom labels small room readable short =
     let words : words_of_items (disassembly_items rom labels) ≡ pad_text ∷ texts_of_coded coded = ap (λ (texts : List (List ℕ)). pad_text ∷ texts) known.words in
     rw known.bytes at (plain_assembles (disassembly_items rom labels) coded sound words known.stand short (omega (arith, ap length known.bytes)))
 
-long_text : (before name digits address : List ℕ) → ((((before ++ name) ++ 32 ∷ digits) ++ 32 ∷ 40 ∷ 32 ∷ []) ++ address) ++ 32 ∷ 41 ∷ 10 ∷ []
+long_text : (before name digits address : List ℕ) → ((before ++ name) ++ 32 ∷ digits) ++ 32 ∷ 40 ∷ 32 ∷ (address ++ 32 ∷ 41 ∷ 10 ∷ [])
     ≡ before ++ text_of_items (PlainWord name 32 ∷ PlainWord digits 32 ∷ Comment address 10 ∷ [])
 long_text before name digits address = simp (append_assoc, append-nil) refl
 
 -- the line of an instruction
 pub line_text : (before name immediate address : List ℕ)
-    → ((((before ++ name) ++ behind_name immediate) ++ 32 ∷ 40 ∷ 32 ∷ []) ++ address) ++ 32 ∷ 41 ∷ 10 ∷ []
+    → ((before ++ name) ++ behind_name immediate) ++ 32 ∷ 40 ∷ 32 ∷ (address ++ 32 ∷ 41 ∷ 10 ∷ [])
     ≡ before ++ text_of_items (PlainWord name 32 ∷ (immediate_items immediate ++ Comment address 10 ∷ []))
 line_text before name [] address = simp (append_assoc, append-nil) refl
 line_text before name (byte ∷ bytes) address = long_text before name (hex_of_bytes (byte ∷ bytes)) address

@@ -12,6 +12,7 @@ ghost use Rattle.tal_listing.specs.Texts.{behind_name};
 ghost use Rattle.tal_listing.specs.Disassembly.{disassembly, immediate_length, instruction_items, label_item, label_items};
 
 use crate::chains::LabelChains;
+use crate::pieces::append_all;
 use std::alloc::{AllocError, Global};
 use tal_words::{Label, op_name};
 use uxn_io_traits::{hex_byte, hex_short};
@@ -28,17 +29,7 @@ pub fn disassemble(alloc: Global, rom: &[u8], labels: &[Label]) -> Result<Vec<u8
         → AssemblesTo text.items rom.now) }
 {
     let chains = LabelChains::new(alloc, labels)?;
-    let mut text = Vec::new(alloc);
-    text.extend_from_slice(b"|0100\n")?;
-    let mut offset = 0;
-    while offset < rom.len() {
-        let address = (addresses::FIRST_ADDRESS as usize + offset) as u16;
-        append_label_lines(&mut text, &chains, labels, address)?;
-        let immediate = immediate_of(rom, offset);
-        append_instruction(&mut text, address, rom[offset], immediate)?;
-        offset += 1 + immediate.len();
-    }
-    Ok(text)
+    disassemble_chained(alloc, rom, labels, &chains)
 }
 
 /// A disassembly assembles to its ROM without the zeros at the end: for each ROM of at most 65,280 bytes
@@ -49,6 +40,29 @@ pub fn disassemblies_assemble()
         → length rom ≤ rom_limit → are_readable labels ≡ true → length (disassembly rom labels) ≤ TEXT_LIMIT
         → AssemblesTo (disassembly rom labels) rom }
 {}
+
+/// The disassembly of a ROM, with the chains of its labels.
+fn disassemble_chained(
+    alloc: Global,
+    rom: &[u8],
+    labels: &[Label],
+    chains: &LabelChains,
+) -> Result<Vec<u8>, AllocError>
+    requires rom { length rom.now ≤ rom_limit }
+    requires chains { AreChained labels.now 0 chains.now.first.items chains.now.next.items }
+    ensures { IfOk result (λ text. text.items ≡ disassembly rom.now labels.now) }
+{
+    let mut text = Vec::from_slice(alloc, b"|0100\n")?;
+    let mut offset = 0;
+    while offset < rom.len() {
+        let address = (addresses::FIRST_ADDRESS as usize + offset) as u16;
+        append_label_lines(&mut text, chains, labels, address)?;
+        let immediate = immediate_of(rom, offset);
+        append_instruction(&mut text, address, rom[offset], immediate)?;
+        offset += 1 + immediate.len();
+    }
+    Ok(text)
+}
 
 /// How many bytes of an instruction follow its opcode.
 fn immediate_len(opcode: u8) -> usize
@@ -84,9 +98,7 @@ fn append_label_lines(
 fn append_label_line(text: &mut Vec<u8>, label: &Label) -> Result<(), AllocError>
     ensures { OnOk result (text.new.items ≡ text.old.items ++ text_of_items (label_item label.now ∷ [])) }
 {
-    text.extend_from_slice(b"( @")?;
-    text.extend_from_slice(label.name.bytes())?;
-    text.extend_from_slice(b" )\n")
+    append_all(text, &[b"( @", label.name.bytes(), b" )\n"])
 }
 
 /// Appends the line of an instruction at an address.
@@ -101,10 +113,7 @@ fn append_instruction(
 {
     text.extend_from_slice(&op_name(opcode))?;
     append_immediate(text, immediate)?;
-    text.extend_from_slice(b" ( ")?;
-    text.extend_from_slice(&hex_short(address))?;
-    text.extend_from_slice(b" )\n")?;
-    Ok(())
+    append_all(text, &[b" ( ", &hex_short(address), b" )\n"])
 }
 
 /// The bytes behind an opcode that belong to its instruction, as far as the ROM has them.

@@ -1,14 +1,16 @@
 //! The listing of an assembly.
 
-ghost use Rattle.std.specs.Prelude.{◌≡◌, ◌≤◌, ◌<◌, ◌+◌, ◌++◌, ℕ, List, ◌∷◌, [], None, Ok, IfOk, OnOk};
+ghost use Rattle.std.specs.Prelude.{◌≡◌, ◌≤◌, ◌<◌, ◌+◌, ◌++◌, codes, ℕ, List, ◌∷◌, [], None, Ok, IfOk, OnOk};
 ghost use Rattle.tal_rom.specs.Assembly.{IsAssembled, first_fault};
+ghost use Rattle.tal_words.specs.Source.{bytes_at};
 ghost use Rattle.tal_listing.specs.Listing.{listing_of, memory_bytes, spaced_bytes, position_text, word_line, HoldsItsWords};
 ghost use Rattle.tal_rom.specs.Rom.{rom_limit};
 
+use crate::pieces::append_all;
 use std::alloc::{AllocError, Global};
 use tal_labels::PlacedWord;
 use tal_rom::Assembly;
-use tal_words::Word;
+use tal_words::Expanded;
 use uxn_io_traits::{decimal, hex_byte, hex_short};
 use uxn_limits::addresses;
 
@@ -52,12 +54,26 @@ fn append_word_line(
         (word.address - addresses::FIRST_ADDRESS) as usize,
         word.size,
     )?;
-    text.extend_from_slice(b"  ")?;
-    append_position(text, &word.word.origin)?;
-    text.push(b' ')?;
-    text.extend_from_slice(word.word.text.text(source))?;
-    text.push(b'\n')?;
-    Ok(())
+    append_source_word(text, source, &word.word)
+}
+
+/// Appends where the source has the word from which a word came, and the word itself.
+fn append_source_word(text: &mut Vec<u8>, source: &[u8], word: &Expanded) -> Result<(), AllocError>
+    ensures { OnOk result (text.new.items
+        ≡ text.old.items ++ (codes "  " ++ position_text word.now.origin ++ 32 ∷ bytes_at source.now word.now.text ++ 10 ∷ [])) }
+{
+    append_all(
+        text,
+        &[
+            b"  ",
+            decimal(word.origin.line as u64).as_slice(),
+            b":",
+            decimal(word.origin.column as u64).as_slice(),
+            b" ",
+            word.text.text(source),
+            b"\n",
+        ],
+    )
 }
 
 /// Appends so many bytes from an offset of the ROM on as digits, each with a space before it.
@@ -76,13 +92,4 @@ fn append_memory(
         text.extend_from_slice(&hex_byte(byte))?;
     }
     Ok(())
-}
-
-/// Appends the line and the column of a word of the source.
-fn append_position(text: &mut Vec<u8>, origin: &Word) -> Result<(), AllocError>
-    ensures { OnOk result (text.new.items ≡ text.old.items ++ position_text origin.now) }
-{
-    text.extend_from_slice(&decimal(origin.line as u64))?;
-    text.push(b':')?;
-    text.extend_from_slice(&decimal(origin.column as u64))
 }

@@ -1,3 +1,4 @@
+use Rattle.std.proofs.lemmas.Result.{IfOk-equal}
 use Rattle.tal_words.specs.Opcodes.{name_of_op}
 use Rattle.uxn_io_traits.specs.NumberText.{hex_of_short}
 use Rattle.tal_listing.proofs.DisassemblyLemmas.{line_text}
@@ -5,6 +6,6 @@ use Rattle.tal_listing.proofs.disassembly.append_instruction.Goals as goal
 
 pub returns : goal.returns
 returns c =
-    rw (c.in_ok-extend_from_slice-4.ensures.items, c.in_ok-extend_from_slice-3.ensures.items, c.in_ok-extend_from_slice-2.ensures.items, c.in_ok-append_immediate.ensures)
-    (rw (c.in_ok-extend_from_slice.ensures.items, c.deref.ensures.0, c.op_name.ensures, c.hex_short.ensures)
+    IfOk-equal c.append_all.result _ _ _ c.append_all.ensures
+    (rw (c.in_ok-append_immediate.ensures, c.in_ok-extend_from_slice.ensures.items, c.deref.ensures.0, c.op_name.ensures, c.hex_short.ensures)
     (line_text c.args.text.now.items (name_of_op c.args.opcode) c.args.immediate.now (hex_of_short c.args.address)))

@@ -1,6 +1,6 @@
 use Rattle.std.proofs.Common.{length, ◌-◌}
 use Rattle.tal_listing.proofs.DisassemblyLemmas.{DisassembledTo}
-use Rattle.tal_listing.proofs.disassembly.disassemble.Given as goal
+use Rattle.tal_listing.proofs.disassembly.disassemble_chained.Given as goal
 
 abbrev pub invariant-loop-offset : goal.invariant-loop-offset
 invariant-loop-offset l = DisassembledTo l.rom l.labels l.text.items l.offset
