@@ -20,7 +20,7 @@ use Rattle.tal_include.specs.FlatWords.{HasItsWords}
 use Rattle.tal_include.specs.Splice.{has_includes, is_spliced, splice_inquiry}
 use Rattle.tal_include.proofs.FlatWordLemmas.{spliced_words}
 use Rattle.tal_assembly.specs.declared.fault.SourceFault.{SourceFault}
-use Rattle.tal_assembly.specs.Sources.{SourceView, sourced_of, source_inquiry, include_source_fault, met_fault, flat_answer, own_answer, HasOrigin}
+use Rattle.tal_assembly.specs.Sources.{SourceView, sourced_of, source_inquiry, spliced_inquiry, include_source_fault, met_fault, flat_answer, own_answer, HasOrigin}
 use Rattle.tal_rom.specs.FaultWordLaws.{IsAt, fault_at_word}
 
 module _ (main source : List ℕ) (a : TreeState) where
@@ -32,32 +32,34 @@ module _ (main source : List ℕ) (a : TreeState) where
   by-itself r own says = let no = sym own in rw no (inquires-said sourced_of (own_answer source) a r says)
 
   -- or is
-  module _ (text : List ℕ) (b : TreeState) (is : is_spliced source ≡ true) (same : text ≡ source) where
-    pub flat-halted : (halt : Halt IncludeFault) → Inquires (λ (flat : Flat). flat) (splice_inquiry main text) a b (Err halt)
-        → Inquires sourced_of (source_inquiry main source) a b (Err (halt_as (met_fault main) halt))
-    unfolding source_inquiry
+  pub by-files : (b : TreeState) (r : Result SourceView (Halt SourceFault)) → is_spliced source ≡ true
+      → Inquires sourced_of (spliced_inquiry main source) a b r
+      → Inquires sourced_of (source_inquiry main source) a b r
+  unfolding source_inquiry
+  by-files b r is p = rw is p
+
+  module _ (b : TreeState) where
+    pub flat-halted : (halt : Halt IncludeFault) → Inquires (λ (flat : Flat). flat) (splice_inquiry main source) a b (Err halt)
+        → Inquires sourced_of (spliced_inquiry main source) a b (Err (halt_as (met_fault main) halt))
     flat-halted halt p =
-        rw is (inquires-stop (λ (flat : Flat). flat) sourced_of _ (λ flat. Answer (flat_answer main flat)) a b (halt_as (met_fault main) halt)
-        (inquires-as (met_fault main) (λ (flat : Flat). flat) (splice_inquiry main source) a b (Err halt)
-        (subst (λ (t : List ℕ). Inquires (λ (flat : Flat). flat) (splice_inquiry main t) a b (Err halt)) same p)))
+        inquires-stop (λ (flat : Flat). flat) sourced_of _ (λ flat. Answer (flat_answer main flat)) a b (halt_as (met_fault main) halt)
+        (inquires-as (met_fault main) (λ (flat : Flat). flat) (splice_inquiry main source) a b (Err halt) p)
 
     pub flat-refused : (fault : IncludeFault) (word : List ℕ) (met : SourceFault) → word ≡ fault.word.items
         → met ≡ include_source_fault main fault.origin fault.kind word
-        → Inquires (λ (flat : Flat). flat) (splice_inquiry main text) a b (Err (Refused fault))
-        → Inquires sourced_of (source_inquiry main source) a b (Err (Refused met))
+        → Inquires (λ (flat : Flat). flat) (splice_inquiry main source) a b (Err (Refused fault))
+        → Inquires sourced_of (spliced_inquiry main source) a b (Err (Refused met))
     flat-refused fault word met is_word is_met p =
         let as_met : met_fault main fault ≡ met = sym (is_met ∙ ap (include_source_fault main fault.origin fault.kind) is_word) in
-        subst (λ found. Inquires sourced_of (source_inquiry main source) a b (Err (Refused found))) as_met (flat-halted (Refused fault) p)
+        subst (λ found. Inquires sourced_of (spliced_inquiry main source) a b (Err (Refused found))) as_met (flat-halted (Refused fault) p)
 
     pub flat-answered : (flat : Flat) (r : Result SourceView (Halt SourceFault))
-        → Inquires (λ (flat : Flat). flat) (splice_inquiry main text) a b (Ok flat)
+        → Inquires (λ (flat : Flat). flat) (splice_inquiry main source) a b (Ok flat)
         → Says sourced_of (flat_answer main flat) r
-        → Inquires sourced_of (source_inquiry main source) a b r
-    unfolding source_inquiry
+        → Inquires sourced_of (spliced_inquiry main source) a b r
     flat-answered flat r p says =
-        rw is (inquires-last (λ (flat : Flat). flat) sourced_of _ (λ flat. flat_answer main flat) a b flat r
-        (inquires-as (met_fault main) (λ (flat : Flat). flat) (splice_inquiry main source) a b (Ok flat)
-        (subst (λ (t : List ℕ). Inquires {E = IncludeFault} (λ (flat : Flat). flat) (splice_inquiry main t) a b (Ok flat)) same p)) says)
+        inquires-last (λ (flat : Flat). flat) sourced_of _ (λ flat. flat_answer main flat) a b flat r
+        (inquires-as (met_fault main) (λ (flat : Flat). flat) (splice_inquiry main source) a b (Ok flat) p) says
 
 at_origin : (flat : Flat) (fault : Option Fault) → IfSome fault (IsAt (λ (word : Word). IsSome (origin_at flat word.span.start)))
     → IfSome fault (λ found. IsSome (origin_at flat found.at))

@@ -73,6 +73,10 @@ flat_answer main flat =
 abbrev pub met_fault : List ℕ → IncludeFault → SourceFault
 met_fault main fault = include_source_fault main fault.origin fault.kind fault.word.items
 
+-- what is asked of the tree where a source with an include word is read, and what its flat text is assembled from, or the first fault
+abbrev pub spliced_inquiry : List ℕ → List ℕ → Inquiry (Result Sourced SourceFault)
+spliced_inquiry main source = and_then (refused_as (met_fault main) (splice_inquiry main source)) (λ flat. Answer (flat_answer main flat))
+
 -- what is asked of the tree where a source is read, and what it is assembled from, or its first fault: a source with an include
 -- word is assembled from its flat text, any other from its own
 unfoldable pub source_inquiry : List ℕ → List ℕ → Inquiry (Result Sourced SourceFault)

@@ -1,18 +1,19 @@
 //! A source with its includes, assembled.
 
-ghost use Rattle.std.specs.Prelude.{◌≡◌, Ok, IfOk};
+ghost use Rattle.std.specs.Prelude.{◌≡◌, None, Ok, IfOk};
 ghost use Rattle.uxn_inquiry.specs.Inquires.{Inquires, Says};
 ghost use Rattle.tal_words.specs.Faults.{fault_text};
+ghost use Rattle.tal_words.specs.Comments.{word_fault, words_of};
 ghost use Rattle.tal_rom.specs.Assembly.{IsAssembled, first_fault};
 ghost use Rattle.tal_include.specs.declared.faults.IncludeKind.TheVariants.{Words};
-ghost use Rattle.tal_assembly.specs.Sources.{include_source_fault, flat_answer, origin_in, own_answer, source_inquiry, sourced_of};
+ghost use Rattle.tal_assembly.specs.Sources.{include_source_fault, flat_answer, origin_in, own_answer, source_inquiry, sourced_of, spliced_inquiry};
 
 use crate::fault::{SourceFault, SourceStop};
 use std::alloc::{AllocError, Global};
 use std::marker::Model;
 use tal_include::{IncludeKind, Origin, SpliceStop, Spliced, splice_words, words_to_splice};
 use tal_rom::{Assembly, assemble};
-use tal_words::{AsmStop, Fault, fault_word};
+use tal_words::{AsmStop, Fault, Word, fault_word};
 use uxn_io_traits::{Bytes, Path, Tree};
 
 /// A source without a fault: the text that was assembled, which is its own or its flat text, the files that it includes, and
@@ -70,10 +71,26 @@ pub fn read_source<T: Tree>(
     ensures answer { Inquires sourced_of (source_inquiry main.now source.list) (T.state tree.old) (T.state tree.new) result }
     ensures assembled { IfOk result (λ made. IsAssembled made.text (Ok made.assembly)) }
 {
-    let Some(words) = words_to_splice(alloc, source.as_slice())? else {
-        return assemble_own(alloc, source);
-    };
-    match splice_words(alloc, tree, main, source.as_slice(), &words) {
+    match words_to_splice(alloc, source.as_slice())? {
+        Some(words) => read_spliced(alloc, tree, main, source.as_slice(), &words),
+        None => assemble_own(alloc, source),
+    }
+}
+
+/// Assembles a source with include words and these words, none of them faulty.
+fn read_spliced<T: Tree>(
+    alloc: Global,
+    tree: &mut T,
+    main: &Path,
+    source: &[u8],
+    words: &[Word],
+) -> Result<AssembledSource, SourceStop>
+    requires faultless { word_fault source.now ≡ None }
+    requires words { words.now ≡ words_of source.now }
+    ensures answer { Inquires sourced_of (spliced_inquiry main.now source.now) (T.state tree.old) (T.state tree.new) result }
+    ensures assembled { IfOk result (λ made. IsAssembled made.text (Ok made.assembly)) }
+{
+    match splice_words(alloc, tree, main, source, words) {
         Ok(flat) => assemble_flat(alloc, main, flat),
         Err(SpliceStop::Refused(fault)) => {
             let met = SourceFault::new(alloc, main, &fault.origin, fault.kind, &fault.word)?;
