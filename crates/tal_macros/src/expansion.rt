@@ -85,6 +85,20 @@ impl<'a> Expander<'a> {
         }
     }
 
+    /// The words of the expanded list behind those given so far.
+    fn rest(&mut self) -> Result<Vec<Expanded>, AsmStop>
+        requires { self.old.visited ≤ VISIT_LIMIT }
+        ensures value { Gives (λ v. given self.old ++ v.items) result
+            (expansion_fault self.old.source) (expanded_of self.old.source) }
+        ensures few { IfOk result (λ v. length v.items ≤ VISIT_LIMIT) }
+    {
+        let mut expanded = Vec::new(self.alloc);
+        while let Some(word) = self.next()? {
+            expanded.push(word)?;
+        }
+        Ok(expanded)
+    }
+
     /// How many words of the visit list were given, or opened as uses, so far: at most `VISIT_LIMIT`.
     pub fn visited(&self) -> u32
         ensures value { result ≡ self.now.visited }
@@ -122,11 +136,7 @@ pub fn expand(alloc: Global, source: &[u8], words: &[Word]) -> Result<Vec<Expand
     ensures few { IfOk result (λ v. length v.items ≤ VISIT_LIMIT) }
 {
     let mut expander = Expander::new(alloc, source, words);
-    let mut expanded = Vec::new(alloc);
-    while let Some(word) = expander.next()? {
-        expanded.push(word)?;
-    }
-    Ok(expanded)
+    expander.rest()
 }
 
 /// What is wrong with a word of the visit list or of a head stands in the order of its kinds, so that the first is the least.
