@@ -17,6 +17,7 @@ ghost use Rattle.uxn_debugger.specs.Printing.{
   printed,
 };
 ghost use Rattle.uxn_debugger.specs.Scenes.{view_in};
+ghost use Rattle.uxn_debugger.specs.declared.place.Place.TheVariants.{Before};
 
 use crate::place::Place;
 use crate::scene::Scene;
@@ -27,6 +28,7 @@ use tal_symbols::{Label, nearest};
 use tal_words::op_name;
 use uxn_io_traits::{decimal, hex_byte, hex_short};
 use uxn_opcodes::Ports;
+use vector_loop::Moment;
 
 /// How many bytes a line shows.
 const ROW: u16 = 16;
@@ -106,26 +108,37 @@ fn put_place_line(
     ensures { OnOk result (log.new.items ≡ log.old.items ++ place_line labels.now opcode place) }
 {
     match place {
-        Place::Before(moment) => {
-            put_all(
-                log,
-                &[
-                    b"at ",
-                    &hex_short(moment.address),
-                    b" ",
-                    decimal(moment.instructions).as_slice(),
-                    b" ",
-                    op_name(opcode).as_slice(),
-                ],
-            )?;
-            put_label(log, labels, moment.address)?;
-            log.extend_from_slice(b"\n")
-        }
+        Place::Before(moment) => put_moment(log, labels, opcode, moment),
         Place::End(last) => put_all(
             log,
             &[b"end ", decimal(last.instructions).as_slice(), b"\n"],
         ),
     }
+}
+
+// Prints the place line of a moment before an instruction, with its opcode.
+#[tactic(auto, unfolding(crate::specs::Printing::place_line))]
+fn put_moment(
+    log: &mut Vec<u8>,
+    labels: &[Label],
+    opcode: u8,
+    moment: Moment,
+) -> Result<(), AllocError>
+    ensures { OnOk result (log.new.items ≡ log.old.items ++ place_line labels.now opcode (Before moment)) }
+{
+    put_all(
+        log,
+        &[
+            b"at ",
+            &hex_short(moment.address),
+            b" ",
+            decimal(moment.instructions).as_slice(),
+            b" ",
+            op_name(opcode).as_slice(),
+        ],
+    )?;
+    put_label(log, labels, moment.address)?;
+    log.extend_from_slice(b"\n")
 }
 
 // Prints pieces one after the other.
