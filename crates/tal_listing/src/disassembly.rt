@@ -12,10 +12,9 @@ ghost use Rattle.tal_listing.specs.Texts.{behind_name};
 ghost use Rattle.tal_listing.specs.Disassembly.{disassembly, immediate_length, instruction_items, label_item, label_items};
 
 use crate::chains::LabelChains;
-use crate::pieces::append_all;
 use std::alloc::{AllocError, Global};
 use tal_words::{Label, op_name};
-use uxn_io_traits::{hex_byte, hex_short};
+use uxn_io_traits::{append_pieces, hex_byte, hex_short};
 use uxn_limits::addresses;
 
 /// The disassembly of a ROM: the line `|0100`, and then a line for each instruction, with its name, its
@@ -98,7 +97,7 @@ fn append_label_lines(
 fn append_label_line(text: &mut Vec<u8>, label: &Label) -> Result<(), AllocError>
     ensures { OnOk result (text.new.items ≡ text.old.items ++ text_of_items (label_item label.now ∷ [])) }
 {
-    append_all(text, &[b"( @", label.name.bytes(), b" )\n"])
+    append_pieces(text, &[b"( @", label.name.bytes(), b" )\n"])
 }
 
 /// Appends the line of an instruction at an address.
@@ -113,7 +112,7 @@ fn append_instruction(
 {
     text.extend_from_slice(&op_name(opcode))?;
     append_immediate(text, immediate)?;
-    append_all(text, &[b" ( ", &hex_short(address), b" )\n"])
+    append_pieces(text, &[b" ( ", &hex_short(address), b" )\n"])
 }
 
 /// The bytes behind an opcode that belong to its instruction, as far as the ROM has them.

@@ -5,7 +5,6 @@ mod chains;
 mod disassembly;
 mod labels;
 mod listings;
-mod pieces;
 
 pub use disassembly::{disassemble, disassemblies_assemble};
 pub use labels::source_labels_are_read;

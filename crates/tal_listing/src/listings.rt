@@ -6,12 +6,11 @@ ghost use Rattle.tal_words.specs.Source.{bytes_at};
 ghost use Rattle.tal_listing.specs.Listing.{listing_of, memory_bytes, spaced_bytes, position_text, word_line, HoldsItsWords};
 ghost use Rattle.tal_rom.specs.Rom.{rom_limit};
 
-use crate::pieces::append_all;
 use std::alloc::{AllocError, Global};
 use tal_labels::PlacedWord;
 use tal_rom::Assembly;
 use tal_words::Expanded;
-use uxn_io_traits::{decimal, hex_byte, hex_short};
+use uxn_io_traits::{append_pieces, decimal, hex_byte, hex_short};
 use uxn_limits::addresses;
 
 /// The listing of the assembly of a source: for each word that has bytes a line with its address, its
@@ -62,7 +61,7 @@ fn append_source_word(text: &mut Vec<u8>, source: &[u8], word: &Expanded) -> Res
     ensures { OnOk result (text.new.items
         ≡ text.old.items ++ (codes "  " ++ position_text word.now.origin ++ 32 ∷ bytes_at source.now word.now.text ++ 10 ∷ [])) }
 {
-    append_all(
+    append_pieces(
         text,
         &[
             b"  ",

@@ -1,7 +1,6 @@
 //! What commands print.
 
 ghost use Rattle.std.specs.Prelude.{◌≡◌, ◌≤◌, ◌++◌, ℕ, List, length, if◌then◌else◌, ◌==◌, ◌||◌, ◌%◌, ◌+◌, [], OnOk};
-ghost use Rattle.std.specs.List.{flat_map};
 ghost use Rattle.vector_loop.specs.Watch.{Page, IsPage};
 ghost use Rattle.tal_symbols.specs.Lookups.{nearest_label};
 ghost use Rattle.system_port.specs.DebugText.{spaced};
@@ -26,7 +25,7 @@ use std::alloc::AllocError;
 use system_port::debug_text;
 use tal_symbols::{Label, nearest};
 use tal_words::op_name;
-use uxn_io_traits::{decimal, hex_byte, hex_short};
+use uxn_io_traits::{append_pieces, decimal, hex_byte, hex_short};
 use uxn_opcodes::Ports;
 use vector_loop::Moment;
 
@@ -69,14 +68,14 @@ pub(crate) fn put_printed<P: Ports>(
 fn put_address_line(log: &mut Vec<u8>, word: &[u8], address: u16) -> Result<(), AllocError>
     ensures { OnOk result (log.new.items ≡ log.old.items ++ address_line word.now address) }
 {
-    put_all(log, &[word, b" ", &hex_short(address), b"\n"])
+    append_pieces(log, &[word, b" ", &hex_short(address), b"\n"])
 }
 
 // Prints how many moments back one could have gone.
 fn put_held(log: &mut Vec<u8>, reach: u32) -> Result<(), AllocError>
     ensures { OnOk result (log.new.items ≡ log.old.items ++ held_line reach) }
 {
-    put_all(
+    append_pieces(
         log,
         &[b"held ", decimal(u64::from(reach)).as_slice(), b"\n"],
     )
@@ -109,7 +108,7 @@ fn put_place_line(
 {
     match place {
         Place::Before(moment) => put_moment(log, labels, opcode, moment),
-        Place::End(last) => put_all(
+        Place::End(last) => append_pieces(
             log,
             &[b"end ", decimal(last.instructions).as_slice(), b"\n"],
         ),
@@ -126,7 +125,7 @@ fn put_moment(
 ) -> Result<(), AllocError>
     ensures { OnOk result (log.new.items ≡ log.old.items ++ place_line labels.now opcode (Before moment)) }
 {
-    put_all(
+    append_pieces(
         log,
         &[
             b"at ",
@@ -141,16 +140,6 @@ fn put_moment(
     log.extend_from_slice(b"\n")
 }
 
-// Prints pieces one after the other.
-fn put_all(log: &mut Vec<u8>, pieces: &[&[u8]]) -> Result<(), AllocError>
-    ensures { OnOk result (log.new.items ≡ log.old.items ++ flat_map (λ piece. piece.now) pieces.now) }
-{
-    for piece in pieces {
-        log.extend_from_slice(piece)?;
-    }
-    Ok(())
-}
-
 // Prints the nearest label that is not above an address, if there is one, and how far the address is from it.
 fn put_label(log: &mut Vec<u8>, labels: &[Label], address: u16) -> Result<(), AllocError>
     ensures { OnOk result (log.new.items ≡ log.old.items ++ label_text (nearest_label labels.now address) address) }
@@ -158,7 +147,7 @@ fn put_label(log: &mut Vec<u8>, labels: &[Label], address: u16) -> Result<(), Al
     let Some(label) = nearest(labels, address) else {
         return Ok(());
     };
-    put_all(
+    append_pieces(
         log,
         &[
             b" ",

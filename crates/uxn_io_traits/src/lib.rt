@@ -4,6 +4,7 @@
 mod bytes;
 mod nothing;
 mod paths;
+mod pieces;
 mod refused;
 mod requests;
 mod sinks;
@@ -13,6 +14,7 @@ mod trees;
 pub use bytes::Bytes;
 pub use nothing::{NoSink, NoTree};
 pub use paths::{Path, PathFault};
+pub use pieces::append_pieces;
 pub use refused::RefusedFiles;
 pub use requests::TreeRequest;
 pub use sinks::{Failed, Sink, put_all};
