@@ -1,7 +1,7 @@
-use Rattle.std.proofs.Common.{arith, ◌≡◌, Err, rules, true, false}
-use Rattle.std.proofs.lemmas.Grind.{common_steps}
+use Rattle.std.proofs.Common.{◌≡◌, Err, rules, true, false}
 use Rattle.uxn_io_traits.specs.Ended.{appending}
-use Rattle.file_ports.proofs.ChangeLemmas.{added-first, added-all}
+use Rattle.uxn_io_traits.specs.EndedLaws.{at-most-on}
+use Rattle.file_ports.proofs.ChangeLemmas.{added-first, added-none, added-all}
 use Rattle.file_ports.proofs.writing.add.Goals as goal
 
 pub returns-in_err-begin-clause-tree : goal.returns-in_err-begin-clause-tree
@@ -10,7 +10,9 @@ returns-in_err-begin-clause-tree g c =
     rw result (added-first c.args.path.now c.args.is_writing c.args.keep _ _ (appending c.args.path.now c.args.piece.now) c.in_err-begin.ensures.tree)
 
 pub returns-then-not-branch-clause-tree : goal.returns-then-not-branch-clause-tree
-returns-then-not-branch-clause-tree g c = grind (arith, common_steps)
+returns-then-not-branch-clause-tree g c =
+    added-none c.args.path.now c.args.is_writing c.args.keep _ _ (appending c.args.path.now c.args.piece.now) c.in_ok-begin.field-0
+    c.in_ok-begin.ensures.begun c.if-not-branch.true c.in_ok-begin.ensures.tree
 
 pub returns-in_err-append_all-clause-tree : goal.returns-in_err-append_all-clause-tree
 returns-in_err-append_all-clause-tree g c =
@@ -24,7 +26,11 @@ returns-clause-tree g c =
     c.in_ok-begin.ensures.begun c.if-not-branch.false c.in_ok-begin.ensures.tree c.in_ok-append_all.ensures.ended
 
 pub returns-in_err-append_all-clause-refused : goal.returns-in_err-append_all-clause-refused
-returns-in_err-append_all-clause-refused g c = grind (arith, common_steps)
+returns-in_err-append_all-clause-refused g c =
+    at-most-on c.args.path.now false _ _ _ (g.T.Tree.state c.append_all.new.tree) c.in_ok-begin.ensures.tree c.in_ok-begin.ensures.refused
+    c.append_all.ensures.refused
 
 pub returns-clause-refused : goal.returns-clause-refused
-returns-clause-refused g c = grind (arith, common_steps)
+returns-clause-refused g c =
+    at-most-on c.args.path.now false _ _ _ (g.T.Tree.state c.append_all.new.tree) c.in_ok-begin.ensures.tree c.in_ok-begin.ensures.refused
+    c.append_all.ensures.refused

@@ -1,30 +1,38 @@
-use Rattle.std.proofs.Common.{arith, ◌≡◌, ℕ, Some, rules, true, false, take, drop, ap, sym, ◌∙◌}
-use Rattle.std.proofs.lemmas.Grind.{common_steps}
-use Rattle.uxn_memory.specs.Bytes.{bank0}
-use Rattle.file_ports.specs.Device.{FileState, is_writing}
-use Rattle.file_ports.specs.AnswersAction.{has_failed}
-use Rattle.uxn_io_traits.specs.CallLaws.{ended-as}
-use Rattle.file_ports.proofs.ChangeLemmas.{write-changes}
+use Rattle.std.proofs.Common.{◌≡◌, Err, rules, true, false}
+use Rattle.file_ports.specs.declared.stop.FileStop.TheVariants.{TreeFault}
+use Rattle.file_ports.proofs.ChangeLemmas.{WritesAt, writes_at, write-changes, write-acted}
+use Rattle.file_ports.proofs.device.FileDevice.write.Given.{Over}
+use Rattle.file_ports.proofs.device.FileDevice.write.Goals.{After-add}
 use Rattle.file_ports.proofs.device.FileDevice.write.Goals as goal
+
+writes : (g : Over) (c : After-add g)
+    → WritesAt c.args.at c.args.length c.args.memory.now c.args.self.now c.in-Some.path c.is_writing-is_writing.result c.slice-piece.result.now
+writes g c =
+    writes_at c.args.at c.args.length _ c.args.memory.now c.args.self.now c.self.inside.path c.self.inside.mode c.in-Some.path _ _
+    c.self.view_is c.in-Some.is c.is_writing-is_writing.ensures c.count_from.ensures.count c.slice-piece.ensures
 
 pub returns-in_err-add-in-Some-clause-tree : goal.returns-in_err-add-in-Some-clause-tree
 returns-in_err-add-in-Some-clause-tree g c =
-    let failed : has_failed c.from_residual.result ≡ true = search rules in
-    let is : c.args.self.now.path ≡ Some c.in-Some.path = ap (λ (d : FileState). d.path) (sym c.self.view_is) ∙ search rules in
-    rw failed (ended-as _ _ true _ _
-    (write-changes c.args.at c.args.length c.args.keep _ c.in-Some.path _ c.args.self.now c.args.memory.now _ is
-    (c.is_writing-is_writing.ensures ∙ ap (λ (d : FileState). is_writing d.mode) c.self.view_is)
-    (c.slice-piece.ensures ∙ ap (λ (n : ℕ). take n (drop c.args.at (bank0 c.args.memory.now))) c.count_from.ensures.count))
-    c.in_err-add-in-Some.ensures.tree)
+    let result : c.from_residual.result ≡ Err TreeFault = search rules in
+    rw result (write-changes c.args.at c.args.length c.args.keep _ true c.in-Some.path _ c.args.memory.now c.args.self.now _ _
+    (writes g (goal.at.returns-in_err-add-in-Some-clause-tree g c).After-add) c.in_err-add-in-Some.ensures.tree)
 
 pub returns-then-not-branch-clause-tree : goal.returns-then-not-branch-clause-tree
-returns-then-not-branch-clause-tree g c = grind (arith, common_steps)
+returns-then-not-branch-clause-tree g c =
+    write-changes c.args.at c.args.length c.args.keep _ false c.in-Some.path _ c.args.memory.now c.args.self.now _ _
+    (writes g (goal.at.returns-then-not-branch-clause-tree g c).After-add) c.in_ok-add-in-Some.ensures.tree
 
 pub returns-else-not-branch-clause-tree : goal.returns-else-not-branch-clause-tree
 returns-else-not-branch-clause-tree g c =
-    let is : c.args.self.now.path ≡ Some c.in-Some.path = ap (λ (d : FileState). d.path) (sym c.self.view_is) ∙ search rules in
-    ended-as _ _ false _ _
-    (write-changes c.args.at c.args.length c.args.keep _ c.in-Some.path _ c.args.self.now c.args.memory.now _ is
-    (c.is_writing-is_writing.ensures ∙ ap (λ (d : FileState). is_writing d.mode) c.self.view_is)
-    (c.slice-piece.ensures ∙ ap (λ (n : ℕ). take n (drop c.args.at (bank0 c.args.memory.now))) c.count_from.ensures.count))
-    c.in_ok-add-in-Some.ensures.tree
+    write-changes c.args.at c.args.length c.args.keep _ false c.in-Some.path _ c.args.memory.now c.args.self.now _ _
+    (writes g (goal.at.returns-else-not-branch-clause-tree g c).After-add) c.in_ok-add-in-Some.ensures.tree
+
+pub returns-then-not-branch-clause-acted : goal.returns-then-not-branch-clause-acted
+returns-then-not-branch-clause-acted g c =
+    write-acted c.args.at c.args.length c.args.keep _ _ false c.in-Some.path _ c.args.memory.now c.args.self.now _ _
+    (writes g (goal.at.returns-then-not-branch-clause-acted g c).After-add) c.in-Some.is c.if-not-branch.true c.in_ok-add-in-Some.ensures.begun
+
+pub returns-else-not-branch-clause-acted : goal.returns-else-not-branch-clause-acted
+returns-else-not-branch-clause-acted g c =
+    write-acted c.args.at c.args.length c.args.keep _ _ true c.in-Some.path c.slice-piece.result.now c.args.memory.now c.args.self.now _ _
+    (writes g (goal.at.returns-else-not-branch-clause-acted g c).After-add) c.in-Some.is c.if-not-branch.false c.in_ok-add-in-Some.ensures.begun
