@@ -2,7 +2,8 @@
 use Rattle.std.specs.Prelude.{slice_get}
 use Rattle.tal_rom.proofs.Common.{◌≡◌, ℕ, ◌+◌, ◌<◌, ◌≤◌, List, [], ◌∷◌, ◌++◌, Ok, length, take, drop, get_or, map, Option, None, refl, sym, ◌∙◌}
 use Rattle.tal_rom.proofs.Common.{ap, arith, take_more, map-append, Form, Pad, Refer, Rune, Label, each, expanded_text}
-use Rattle.tal_rom.proofs.Common.{phase_fault, form, size, encoded_reference, first_scope, each-end, no_word, fault-later, PlacedWord}
+use Rattle.tal_rom.proofs.Common.{phase_fault, fault_at, form, size, encoded_reference, first_scope, each-end, no_word, fault-here, fault-later, PlacedWord}
+use Rattle.tal_rom.proofs.Common.{FaultKind, Some}
 use Rattle.tal_rom.proofs.Common.{next_scope, scope_after, LieApart, scope_after-append, HasAddress, target_in, reference_kinds, scope_behind}
 use Rattle.tal_rom.proofs.Common.{target_of, validated_reference, reference_fault}
 
@@ -59,6 +60,12 @@ module _ (source : List ℕ) (labels : List Label) (words : List PlacedWord) (k 
           (sym (behind_more source (take k words) word (so.apart.each k no_placed_word within).shape));
       apart = so.apart;
     }
+
+    -- a reference with a fault is the first
+    pub faulty_reference : (kind : FaultKind) → slice_get (reference_kinds word.form word.address target) 0 ≡ Some kind
+        → reference_fault source labels words ≡ Some (fault_at word.word.origin kind)
+    faulty_reference kind some =
+        sym so.sound ∙ fault-here (validated_reference source labels) words k no_placed_word within kind (rw same at some)
 
 pub all_checked : (source : List ℕ) (labels : List Label) (words : List PlacedWord) (k : ℕ) (scope : List ℕ) → length words ≤ k
     → IsCheckedSo source labels words k scope → reference_fault source labels words ≡ None
