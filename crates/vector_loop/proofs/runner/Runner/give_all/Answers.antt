@@ -1,4 +1,4 @@
-use Rattle.vector_loop.proofs.Common.{Err, ap, arith, counts_of, give_each, given, rules, sym, unless_over, ◌∙◌, ◌∷◌, ◌≡◌}
+use Rattle.vector_loop.proofs.Common.{Err, ap, arith, counts_of, give_each, given, length, rules, sym, unless_over, ◌∙◌, ◌∷◌, ◌≡◌}
 use Rattle.vector_loop.specs.PendingInputs.{input_count}
 use Rattle.vector_loop.proofs.Counting.{room-less}
 use Rattle.vector_loop.proofs.Giving.{taken-is, untaken-is}
@@ -10,7 +10,9 @@ loop-pending_input-init g c =
     record { going = λ after answer answers. answers; same = same-itself _ _; frames = c.requires.frames; room = c.requires.room }
 
 pub deliver-requires-clause-frames : goal.deliver-requires-clause-frames
-deliver-requires-clause-frames = search (arith, rules, taken-is)
+deliver-requires-clause-frames g c =
+    let is = taken-is c.loop-pending_input.input_queue c.in-Some.pending_input (sym c.in-Some.is ∙ c.take.ensures.value) in
+    omega (arith, rw is at c.loop-pending_input.invariant.frames)
 
 pub deliver-requires-clause-room : goal.deliver-requires-clause-room
 deliver-requires-clause-room g c =
@@ -57,4 +59,6 @@ returns g c =
     rw none at c.loop-pending_input.invariant.going _ _ (answers-nothing _ _ (tt {0}))
 
 pub loop-pending_input-smaller : goal.loop-pending_input-smaller
-loop-pending_input-smaller = search (arith, rules, taken-is)
+loop-pending_input-smaller g c =
+    let is = taken-is c.loop-pending_input.input_queue c.in-Some.pending_input (sym c.in-Some.is ∙ c.take.ensures.value) in
+    omega (arith, ap length is, ap length c.take.ensures.rest)

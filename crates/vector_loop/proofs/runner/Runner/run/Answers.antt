@@ -18,10 +18,13 @@ returns-in_err-run_vector g c =
     (rw c.args-2.ensures at c.make_ready.ensures.devices) c.in_err-run_vector.ensures.answers)))
 
 pub give_all-requires-clause-frames : goal.give_all-requires-clause-frames
-give_all-requires-clause-frames = search (arith, rules)
+give_all-requires-clause-frames g c =
+    rw c.new.ensures (omega (arith, c.requires.frames, c.make_ready.ensures.frames, c.in_ok-run_vector.ensures.answers.frames))
 
 pub give_all-requires-clause-room : goal.give_all-requires-clause-room
-give_all-requires-clause-room = search (arith, rules, room-after)
+give_all-requires-clause-room g c = rw c.new.ensures
+    (room-after _ _ _ _ (of_vectors 1) (counts_of (pending_inputs_of c.args.script.now)) (most_of c.args.script.now) _ (omega arith) (omega arith)
+    c.requires.room c.in_ok-run_vector.ensures.answers)
 
 pub returns : goal.returns
 unfolding run

@@ -8,7 +8,8 @@ pub loop-voice-init : goal.loop-voice-init
 loop-voice-init g c = record { going = λ after answer answers. answers; same = same-itself _ _; room = c.requires }
 
 pub run_ended-requires-clause-room : goal.run_ended-requires-clause-room
-run_ended-requires-clause-room = search (arith, rules, room-less)
+run_ended-requires-clause-room g c =
+    room-less _ (of_vectors 1) (of_vectors (4 - c.loop-voice.voice)) _ (omega (arith, c.loop-voice-test.true)) (omega arith) c.loop-voice.invariant.room
 
 pub loop-voice-preserved : goal.loop-voice-preserved
 unfolding give_each
