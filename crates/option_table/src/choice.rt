@@ -1,6 +1,7 @@
 //! The rows of a table of options, and the parser that reads words by it.
-ghost use Rattle.std.specs.Prelude.{◌≡◌, IfOk, [], false};
-ghost use Rattle.clap.specs.Words.{app_of, rule_of};
+ghost use Rattle.std.specs.Prelude.{◌≡◌, ℕ, List, Some, IfOk, [], false};
+ghost use Rattle.clap.specs.Words.{app_of, new_rule, rule_of};
+ghost use Rattle.option_table.specs.Words.{choice_of};
 ghost use Rattle.option_table.specs.Parsing.{choice_argument, choice_in, parser_for, table_choices};
 
 use clap::{Arg, ArgAction, Command};
@@ -20,18 +21,29 @@ pub enum ChoiceKind {
 /// A row of a table: the name of an option, without the `--` before it, and what the option is.
 pub type Choice = (&'static str, ChoiceKind);
 
+/// What an argument of this kind does with its uses, and whether it has to be given.
+fn uses_of(kind: ChoiceKind) -> (ArgAction, bool)
+    ensures { (name : List ℕ) → choice_argument (choice_of name kind)
+        ≡ record (new_rule name) { long = Some name; action = Some result.0; required = result.1 } }
+{
+    match kind {
+        ChoiceKind::Switch => (ArgAction::SetTrue, false),
+        ChoiceKind::Optional => (ArgAction::Set, false),
+        ChoiceKind::Required => (ArgAction::Set, true),
+    }
+}
+
 /// The argument of a parser.
 fn argument<'a>(alloc: Global, choice: &Choice) -> Arg<'a>
     ensures rule { rule_of result ≡ choice_argument (choice_in choice.now) }
     ensures local { result.global ≡ false }
 {
     let (name, kind) = *choice;
-    let argument = Arg::new(alloc, name).long(name);
-    match kind {
-        ChoiceKind::Switch => argument.action(ArgAction::SetTrue),
-        ChoiceKind::Optional => argument.action(ArgAction::Set),
-        ChoiceKind::Required => argument.action(ArgAction::Set).required(true),
-    }
+    let (action, required) = uses_of(kind);
+    Arg::new(alloc, name)
+        .long(name)
+        .action(action)
+        .required(required)
 }
 
 /// The parser of one operand.
