@@ -119,11 +119,12 @@ literal mode core = let s = sides_of mode.returns core in core_of mode.returns (
   at = (s.at + size_of mode.width) % 65536;
 })
 
--- the instructions whose low five bits are 0: 20 is JCI, 40 is JMI, 60 is JSI, and 80, a0, c0, e0 are LIT
+-- the instructions whose low five bits are 0: 00 is BRK, 20 is JCI, 40 is JMI, 60 is JSI, and 80, a0, c0, e0 are LIT
 abbrev pub immediate : ℕ → Core → Core
 immediate code core =
-    if code == 0x20 then jumped_if core
-    else (if code == 0x40 then jumped core else (if code == 0x60 then called core else literal (mode_of code) core))
+    if code == 0x00 then core
+    else (if code == 0x20 then jumped_if core
+    else (if code == 0x40 then jumped core else (if code == 0x60 then called core else literal (mode_of code) core)))
 
 -- a row's instruction, from the machine past the opcode, up to its port access
 abbrev pub row_begun : Op → Mode → Core → Begun
@@ -134,15 +135,9 @@ abbrev pub begun_by : Option Op → ℕ → Core → Begun
 begun_by None code core = record { core = immediate code core; access = Nothing }
 begun_by (Some op) code core = row_begun op (mode_of code) core
 
--- the instruction of a code other than BRK's up to its port access, and the one that a machine is at
+-- the instruction of a code up to its port access, and the one that a machine is at
 abbrev pub begun_with : ℕ → Core → Begun
 begun_with code core = begun_by (op_of code) code (past_opcode core)
 
 unfoldable pub begun : Core → Begun
 begun core = begun_with (opcode_at core) core
-
--- the instruction of a code up to its port access: BRK has none
-unfoldable pub Begins : ℕ → Core → Option Access → Core → Type 0
-Begins code core None core_new = (code ≡ 0) × (core_new ≡ past_opcode core)
-Begins code core (Some access) core_new =
-    (code ≢ 0) × ((core_new ≡ (begun_with code core).core) × (access ≡ (begun_with code core).access))

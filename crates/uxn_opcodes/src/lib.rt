@@ -10,13 +10,12 @@ ghost use Rattle.uxn_opcodes.specs.Rule.{
   past_opcode,
   immediate,
   begun,
-  Begins,
+  begun_with,
   row_begun,
   jumped,
   jumped_if,
   called,
   literal,
-  begun_by,
   moved,
 };
 ghost use Rattle.uxn_opcodes.specs.Table.{op_of, mode_of};
@@ -191,43 +190,11 @@ fn run_immediate(core: &mut Core, at: &mut u16, code: u8)
     ensures { moved core.new at.new ≡ immediate code (moved core.old at.old) }
 {
     match code {
+        0x00 => {}
         0x20 => jump_on_if(core, at),
         0x40 => jump_on(core, at),
         0x60 => call(core, at),
         _ => push_literal(core, at, Mode::of(code)),
-    }
-}
-
-/// Runs the instruction of a code up to its port access.
-fn begin<const CODE: u8>(core: &mut Core, at: &mut u16) -> Access
-    ensures core { moved core.new at.new ≡ (begun_by (op_of CODE) CODE (moved core.old at.old)).core }
-    ensures access { result ≡ (begun_by (op_of CODE) CODE (moved core.old at.old)).access }
-{
-    let mode = Mode::of(CODE);
-    match Op::of(CODE) {
-        None => {
-            run_immediate(core, at, CODE);
-            Access::Nothing
-        }
-        Some(op) => if mode.returns {
-            perform(
-                op,
-                mode,
-                &mut core.memory,
-                at,
-                &mut core.returns,
-                &mut core.working,
-            )
-        } else {
-            perform(
-                op,
-                mode,
-                &mut core.memory,
-                at,
-                &mut core.working,
-                &mut core.returns,
-            )
-        }
     }
 }
 
@@ -314,16 +281,39 @@ fn finish<P: Ports>(
 }
 
 /// Runs the instruction of a code that is a constant, and so are its operation and its mode: all but its port access,
-/// which is told. BRK has none.
-#[tactic(auto, unfolding(crate::specs::Rule::Begins))]
-fn run<const CODE: u8>(core: &mut Core, at: &mut u16) -> Option<Access>
-    ensures { Begins CODE (moved core.old at.old) result (moved core.new at.new) }
+/// which is told, and the next address.
+fn run<const CODE: u8>(core: &mut Core, at: u16) -> (Access, u16)
+    ensures core { moved core.new result.1 ≡ (begun_with CODE (moved core.old at)).core }
+    ensures access { result.0 ≡ (begun_with CODE (moved core.old at)).access }
 {
-    *at = at.wrapping_add(1);
-    if CODE == 0 {
-        return None;
-    }
-    Some(begin::<CODE>(core, at))
+    let mode = Mode::of(CODE);
+    let mut next = at.wrapping_add(1);
+    let access = match Op::of(CODE) {
+        None => {
+            run_immediate(core, &mut next, CODE);
+            Access::Nothing
+        }
+        Some(op) => if mode.returns {
+            perform(
+                op,
+                mode,
+                &mut core.memory,
+                &mut next,
+                &mut core.returns,
+                &mut core.working,
+            )
+        } else {
+            perform(
+                op,
+                mode,
+                &mut core.memory,
+                &mut next,
+                &mut core.working,
+                &mut core.returns,
+            )
+        }
+    };
+    (access, next)
 }
 
 /// Runs the instruction of a code: each byte has an arm of its own.
@@ -336,11 +326,12 @@ macro_rules! run_code {
     };
 }
 
-/// Runs the instruction of a code, all but its port access. No ports stand here: the proof of so many arms is long, and
-/// the longer the more there is in each.
+/// Runs the instruction of a code, all but its port access, which is told, and the next address. No ports stand here, and
+/// `at` is no reference: the proof of so many arms is long, and the longer the more is borrowed in each.
 #[inline(always)]
-fn run_any(core: &mut Core, at: &mut u16, code: u8) -> Option<Access>
-    ensures { Begins code (moved core.old at.old) result (moved core.new at.new) }
+fn run_any(core: &mut Core, at: u16, code: u8) -> (Access, u16)
+    ensures core { moved core.new result.1 ≡ (begun_with code (moved core.old at)).core }
+    ensures access { result.0 ≡ (begun_with code (moved core.old at)).access }
 {
     run_code!(code, core, at,
         0x00 0x01 0x02 0x03 0x04 0x05 0x06 0x07 0x08 0x09 0x0a 0x0b 0x0c 0x0d 0x0e 0x0f
@@ -365,16 +356,18 @@ fn run_any(core: &mut Core, at: &mut u16, code: u8) -> Option<Access>
 /// Runs the instruction at `at`, and puts the next address there: what `step` does with `core.at`. A loop that keeps `at`
 /// in a variable of its own waits for no store of it. `core.at` is what it was or the address after a port access.
 #[inline(always)]
-#[tactic(auto, unfolding(crate::specs::Instruction::Instruction, crate::specs::Rule::Begins, crate::specs::Rule::begun))]
+#[tactic(auto, unfolding(crate::specs::Instruction::Instruction, crate::specs::Rule::begun, crate::specs::Table::op_of))]
 pub fn step_from<P: Ports>(core: &mut Core, at: &mut u16, ports: &mut P) -> Result<Turn, Stop>
     ensures instruction { Instruction P.rules (moved core.old at.old) ports.old result (moved core.new at.new) ports.new }
     ensures broke { (result ≡ Ok Turn.Broke) ↔ (opcode_at (moved core.old at.old) ≡ 0) }
     ensures ledger { Ledger (P.faults ports.old) (P.faults ports.new) (result_blame result) }
 {
     let code = opcode(core, *at);
-    let Some(access) = run_any(core, at, code) else {
+    let (access, next) = run_any(core, *at, code);
+    *at = next;
+    if code == 0 {
         return Ok(Turn::Broke);
-    };
+    }
     finish(core, at, ports, access)?;
     Ok(Turn::Ran)
 }
