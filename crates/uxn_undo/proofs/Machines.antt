@@ -67,15 +67,17 @@ pub side-pushed : (returns : Bool) (core : Core) (width : Width) (value at : ℕ
 side-pushed true core width value at is = let holds = pushed-holds core.returns width value is.returns in search rules
 side-pushed false core width value at is = let holds = pushed-holds core.working width value is.working in search rules
 
--- the instructions with an immediate
-by_code : (first second third : Bool) (code : ℕ) (core : Core) → IsMachine core
-    → SameMemory core (cond first (jumped_if core) (cond second (jumped core) (cond third (called core) (literal (mode_of code) core))))
-by_code true second third code core is =
+-- the instructions with an immediate, and BRK
+by_code : (brk first second third : Bool) (code : ℕ) (core : Core) → IsMachine core
+    → SameMemory core (cond brk core
+    (cond first (jumped_if core) (cond second (jumped core) (cond third (called core) (literal (mode_of code) core)))))
+by_code true first second third code core is = record { memory = refl; machine = is }
+by_code false true second third code core is =
     elim (byte_below core.working 0 == 0) as (λ b. SameMemory core (cond b (record core { working = lowered core.working 1; at = (core.at + 2) % 65536 })
     (record (jumped core) { working = lowered core.working 1 }))) [ true ↦ search rules | false ↦ search rules ]
-by_code false true third code core is = search rules
-by_code false false true code core is = search (arith, rules, pushed-holds)
-by_code false false false code core is = side-pushed (mode_of code).returns core (mode_of code).width _ _ is
+by_code false false true third code core is = search rules
+by_code false false false true code core is = search (arith, rules, pushed-holds)
+by_code false false false false code core is = side-pushed (mode_of code).returns core (mode_of code).width _ _ is
 
 pub immediate-machine : (code : ℕ) (core : Core) → IsMachine core → SameMemory core (immediate code core)
-immediate-machine code core is = by_code (code == 0x20) (code == 0x40) (code == 0x60) code core is
+immediate-machine code core is = by_code (code == 0x00) (code == 0x20) (code == 0x40) (code == 0x60) code core is
