@@ -15,10 +15,11 @@ use Rattle.hex.proofs.HexLemmas.{length-encode_with, decode_of-encode_lower, dec
 use Rattle.play_script.specs.declared.values.Value.{Value}
 use Rattle.play_script.specs.declared.values.Value.TheVariants.{Byte, Button, MouseButton, Player, Pixel, Turn, Seconds, Minutes}
 use Rattle.play_script.specs.Limits.{AreValues, IsBit, IsValue}
+use Rattle.text_lines.specs.Named.{Named, value_named}
 use Rattle.text_lines.specs.Numbers.{is_digit, is_number, number_within, integer_within, byte_of, begins_with}
 use Rattle.text_lines.proofs.Numerals.{own}
 use Rattle.play_script.specs.PlainText.{text_word, name_in, value_word}
-use Rattle.play_script.specs.Values.{text_of_values, Buttons, bit_in}
+use Rattle.play_script.specs.Values.{text_of_values}
 use Rattle.play_script.specs.declared.values.TheConstants.{BUTTONS, MOUSE_BUTTONS}
 use borrow.Author.Differences.{le_out, neg_is}
 
@@ -121,15 +122,15 @@ unfolding byte_of
 byte_back byte small = rw (decode_sized-encode_lower (byte ∷ []) 1 refl (are_bytes (byte ∷ []) (one_byte byte small))) refl
 
 -- a button's name is read back, and is a plain word
-abbrev pub IsScriptRead : Buttons → ℕ → Type 0
-IsScriptRead table mask = (bit_in table (name_in table mask) ≡ Some mask) × (is_plain (name_in table mask) ≡ true)
+abbrev pub IsScriptRead : Named ℕ → ℕ → Type 0
+IsScriptRead table mask = (value_named table (name_in table mask) ≡ Some mask) × (is_plain (name_in table mask) ≡ true)
 
 pub button_back : (mask : ℕ) → IsBit mask → IsScriptRead BUTTONS mask
-unfolding bit_in name_in
+unfolding value_named name_in
 button_back = grind (arith, common_steps)
 
 pub mouse_button_back : (mask : ℕ) → IsBit mask → IsScriptRead MOUSE_BUTTONS mask
-unfolding bit_in name_in
+unfolding value_named name_in
 mouse_button_back = grind (arith, common_steps)
 
 -- the words of values are plain

@@ -5,6 +5,7 @@ use Rattle.std.specs.List.{find, join_with_byte, flat_map}
 use Rattle.std.specs.Option.{unwrap_or, option_map}
 use Rattle.std.specs.Fmt.{signed_decimal}
 use Rattle.hex.specs.Hex.{encode_lower}
+use Rattle.text_lines.specs.Named.{Named}
 use Rattle.input_ports.specs.declared.Input.TheVariants.{Key, Down, Up, Mouse, Press, Release, Scroll, DownOf, UpOf}
 use Rattle.play_script.specs.declared.script.Clock.{Clock}
 use Rattle.play_script.specs.declared.script.Event.{Event}
@@ -14,7 +15,6 @@ use Rattle.play_script.specs.declared.script.Version.TheVariants.{First, Second}
 use Rattle.play_script.specs.declared.values.Value.{Value}
 use Rattle.play_script.specs.declared.values.Value.TheVariants.{Byte, Button, MouseButton, Player, Pixel, Turn, Seconds, Minutes}
 use Rattle.play_script.specs.declared.values.TheConstants.{BUTTONS, MOUSE_BUTTONS}
-use Rattle.play_script.specs.Values.{Buttons}
 use Rattle.play_script.specs.Scripts.{ScriptView}
 
 -- bytes as a text word: pairs of lowercase hexadecimal digits, or `"` alone where there are none
@@ -22,7 +22,7 @@ abbrev pub text_word : List ℕ → List ℕ
 text_word bytes = if length bytes == 0 then codes "\"" else encode_lower bytes
 
 -- the name of a button
-unfoldable pub name_in : Buttons → ℕ → List ℕ
+unfoldable pub name_in : Named ℕ → ℕ → List ℕ
 name_in table mask = unwrap_or (option_map (λ row. row.0.now) (find (λ row. row.1 == mask) table)) []
 
 -- a value of a line as a word

@@ -5,6 +5,7 @@ use Rattle.std.specs.List.{flat_map}
 use Rattle.std.specs.Option.{ok_or, option_zip}
 use Rattle.std.specs.Str.{bytes_eq}
 use Rattle.uxn_limits.specs.declared.limits.TheConstants.{MOST_TIMES, LAST_SECOND, LAST_OFFSET}
+use Rattle.text_lines.specs.Named.{value_named}
 use Rattle.text_lines.specs.Numbers.{byte_of, integer_within, number_within}
 use Rattle.text_lines.specs.Reading.{Line}
 use Rattle.text_lines.specs.Rows.{Rows, fault_named, keyword_of, line_by}
@@ -20,7 +21,7 @@ use Rattle.play_script.specs.declared.script.Version.TheVariants.{First, Second}
 use Rattle.play_script.specs.declared.keyword.TheConstants.{FURTHER, ROWS}
 use Rattle.play_script.specs.declared.keyword.Keyword.{Keyword}
 use Rattle.play_script.specs.declared.keyword.Keyword.TheVariants as word
-use Rattle.play_script.specs.Values.{texts_of_values, bit_in, one_or}
+use Rattle.play_script.specs.Values.{texts_of_values, one_or}
 use Rattle.play_script.specs.declared.values.TheConstants.{BUTTONS, MOUSE_BUTTONS}
 
 -- what a line means
@@ -72,11 +73,11 @@ expect_of _ _ = None
 -- what values make of a player's buttons, of the mouse's buttons, of numbers of columns and rows, and of a wheel's ways
 unfoldable pub buttons_of : (ℕ → ℕ → DeviceInput) → Version → List (List ℕ) → Option DeviceInput
 buttons_of input number [] = None
-buttons_of input number (b ∷ more) = option_map (λ both. input both.0 both.1) (option_zip (bit_in BUTTONS b) (one_or 4 (further number more)))
+buttons_of input number (b ∷ more) = option_map (λ both. input both.0 both.1) (option_zip (value_named BUTTONS b) (one_or 4 (further number more)))
 
 unfoldable pub mouse_buttons_of : (ℕ → DeviceInput) → List (List ℕ) → Option DeviceInput
 mouse_buttons_of input [] = None
-mouse_buttons_of input (n ∷ more) = option_map input (bit_in MOUSE_BUTTONS n)
+mouse_buttons_of input (n ∷ more) = option_map input (value_named MOUSE_BUTTONS n)
 
 unfoldable pub mouse_of : List (List ℕ) → Option DeviceInput
 mouse_of (x ∷ y ∷ more) = option_map (λ at. Mouse at.0 at.1) (option_zip (number_within 0 65535 x) (number_within 0 65535 y))

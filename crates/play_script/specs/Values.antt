@@ -2,8 +2,6 @@
 use Rattle.std.specs.Prelude.{ℕ, List, [], ◌∷◌, drop, if◌then◌else◌, Option, Some, None, option_map}
 use Rattle.std.specs.Result.{result_ok}
 use Rattle.std.specs.Option.{option_zip}
-use Rattle.std.specs.List.{find}
-use Rattle.std.specs.Str.{bytes_eq}
 use Rattle.hex.specs.Hex.{decode_of}
 use Rattle.text_lines.specs.Numbers.{begins_with, number_within}
 
@@ -15,13 +13,6 @@ text_of_values word = if begins_with 34 word then Some (drop 1 word) else result
 abbrev pub texts_of_values : List (List ℕ) → Option (List (List ℕ))
 texts_of_values [] = Some []
 texts_of_values (word ∷ words) = option_map (λ both. both.0 ∷ both.1) (option_zip (text_of_values word) (texts_of_values words))
-
--- buttons by their names, with their bits (the controller's: Varvara device reference)
-abbrev pub Buttons : Type 0
-Buttons = List (record { now : List ℕ } × ℕ)
-
-unfoldable pub bit_in : Buttons → List ℕ → Option ℕ
-bit_in table word = option_map (λ row. row.1) (find (λ row. bytes_eq row.0.now word) table)
 
 -- a number, which is 1 where it is left out
 unfoldable pub one_or : ℕ → List (List ℕ) → Option ℕ

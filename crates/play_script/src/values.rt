@@ -1,21 +1,21 @@
 //! What the words behind a line's first word represent.
 
 ghost use Rattle.std.specs.Prelude.{◌≡◌, ◌+◌, ◌<◌, ◌≤◌, length, find, option_copied, option_map, pos, ◌==◌, IfOk, IfSome};
-ghost use Rattle.std.specs.Str.{bytes_eq};
 ghost use Rattle.std.specs.List.{All};
 ghost use Rattle.uxn_limits.specs.declared.limits.TheConstants.{LAST_OFFSET, LAST_SECOND};
 ghost use Rattle.text_lines.specs.Lines.{words_of};
+ghost use Rattle.text_lines.specs.Named.{value_named};
 ghost use Rattle.text_lines.specs.Numbers.{integer_within, number_within};
 ghost use Rattle.play_script.specs.Held.{bytes_if};
 ghost use Rattle.play_script.specs.PlainText.{name_in};
 ghost use Rattle.play_script.specs.Limits.{IsBit, IsValue};
-ghost use Rattle.play_script.specs.Values.{text_of_values, bit_in, one_or};
+ghost use Rattle.play_script.specs.Values.{text_of_values, one_or};
 ghost use Rattle.play_script.specs.declared.values.TheConstants.{BUTTONS, MOUSE_BUTTONS};
 ghost use Rattle.play_script.specs.declared.values.Value.TheVariants.{Minutes, Pixel, Seconds, Turn};
 
 use hex::FromHexError;
 use std::alloc::{AllocError, Global};
-use text_lines::{begins_with, first_word, integer_within, number_within};
+use text_lines::{Named, begins_with, first_word, integer_within, number_within, value_named};
 use uxn_io_traits::Bytes;
 use uxn_limits::limits;
 
@@ -102,11 +102,8 @@ pub(crate) fn minutes_of(word: &[u8]) -> Option<i32>
     Some(minutes as i32)
 }
 
-/// A row of a table of buttons: the name of one, and its bit.
-pub(crate) type ButtonRow = (&'static str, u8);
-
-/// The controller's buttons.
-pub(crate) static BUTTONS: [ButtonRow; 8] = [
+/// The controller's buttons by their names, with their bits (Varvara device reference).
+pub(crate) static BUTTONS: [Named<u8>; 8] = [
     ("a", 0x01),
     ("b", 0x02),
     ("select", 0x04),
@@ -118,7 +115,7 @@ pub(crate) static BUTTONS: [ButtonRow; 8] = [
 ];
 
 /// The mouse's buttons, which are numbered from 1.
-pub(crate) static MOUSE_BUTTONS: [ButtonRow; 8] = [
+pub(crate) static MOUSE_BUTTONS: [Named<u8>; 8] = [
     ("1", 0x01),
     ("2", 0x02),
     ("3", 0x04),
@@ -130,33 +127,21 @@ pub(crate) static MOUSE_BUTTONS: [ButtonRow; 8] = [
 ];
 
 // The bit of a controller's button.
-#[tactic(auto, unfolding(crate::specs::Values::bit_in))]
+#[tactic(auto, unfolding(text_lines::specs::Named::value_named))]
 pub(crate) fn button_bit(word: &[u8]) -> Option<u8>
-    ensures button { result ≡ bit_in BUTTONS word.now }
+    ensures button { result ≡ value_named BUTTONS word.now }
     ensures bit { IfSome result IsBit }
 {
-    match row_named(BUTTONS.as_slice(), word) {
-        Some(row) => Some(row.1),
-        None => None,
-    }
+    value_named(BUTTONS.as_slice(), word)
 }
 
 // The bit of a mouse's button.
-#[tactic(auto, unfolding(crate::specs::Values::bit_in))]
+#[tactic(auto, unfolding(text_lines::specs::Named::value_named))]
 pub(crate) fn mouse_button_bit(word: &[u8]) -> Option<u8>
-    ensures button { result ≡ bit_in MOUSE_BUTTONS word.now }
+    ensures button { result ≡ value_named MOUSE_BUTTONS word.now }
     ensures bit { IfSome result IsBit }
 {
-    match row_named(MOUSE_BUTTONS.as_slice(), word) {
-        Some(row) => Some(row.1),
-        None => None,
-    }
-}
-
-fn row_named<'a>(rows: &'a [ButtonRow], word: &[u8]) -> Option<&'a ButtonRow>
-    ensures { option_copied result ≡ find (λ row. bytes_eq row.0.now word.now) rows.now }
-{
-    rows.iter().find(|row| row.0.as_bytes() == word)
+    value_named(MOUSE_BUTTONS.as_slice(), word)
 }
 
 // The name of the controller's button with this bit, or nothing.
@@ -181,7 +166,7 @@ pub(crate) fn mouse_button_name(mask: u8) -> &'static [u8]
     }
 }
 
-fn row_of_bit(rows: &'static [ButtonRow], mask: u8) -> Option<&'static ButtonRow>
+fn row_of_bit(rows: &'static [Named<u8>], mask: u8) -> Option<&'static Named<u8>>
     ensures { option_copied result ≡ find (λ row. row.1 == mask) rows.now }
 {
     rows.iter().find(|row| row.1 == mask)

@@ -1,4 +1,5 @@
 pub mod Lines
+pub mod Named
 pub mod Numbers
 pub mod Rows
 pub mod Reading

@@ -2,12 +2,14 @@
 #![tactic(auto)]
 
 mod lines;
+mod named;
 mod numbers;
 mod reading;
 mod row;
 mod words;
 
 pub use lines::Lines;
+pub use named::{Named, value_named};
 pub use numbers::{begins_with, byte_of, integer_within, number_within};
 pub use reading::first_faulty_line;
 pub use row::{Counts, LineFault, Row, keyword_of};

@@ -1,6 +1,6 @@
 -- What the words of the command line ask for (profile).
-use Rattle.std.specs.Prelude.{ℕ, List, [], ◌∷◌, Option, find, option_map, ok_or, Result, Err}
-use Rattle.std.specs.Str.{bytes_eq}
+use Rattle.std.specs.Prelude.{ℕ, List, [], ◌∷◌, ok_or, Result, Err}
+use Rattle.text_lines.specs.Named.{value_named}
 use Rattle.option_table.specs.Words.{values_over}
 use Rattle.uxn_arguments.specs.declared.task.Task.{Task}
 use Rattle.uxn_arguments.specs.declared.words.Command.{Command}
@@ -10,10 +10,6 @@ use Rattle.uxn_arguments.specs.declared.words.WordFault.TheVariants.{NotUndersto
 use Rattle.uxn_arguments.specs.Options.{choices_of, requested_task}
 use Rattle.uxn_arguments.specs.Values.{then_steps}
 
--- the commands by name
-abbrev pub command_of : List ℕ → Option Command
-command_of name = option_map (λ row. row.1) (find (λ row. bytes_eq row.0.now name) COMMANDS)
-
 -- the words behind the name are legal, and then all that name a file are paths
 abbrev pub command_task : List (List ℕ) → Command → Result Task WordFault
 command_task words command = then_steps (ok_or (values_over (choices_of command) words) NotUnderstood) (requested_task command)
@@ -21,4 +17,4 @@ command_task words command = then_steps (ok_or (values_over (choices_of command)
 -- what the words ask for
 unfoldable pub task_of : List (List ℕ) → Result Task WordFault
 task_of [] = Err NotUnderstood
-task_of (name ∷ words) = then_steps (ok_or (command_of name) NotUnderstood) (command_task words)
+task_of (name ∷ words) = then_steps (ok_or (value_named COMMANDS name) NotUnderstood) (command_task words)

@@ -1,12 +1,12 @@
 //! The words of the command line.
-ghost use Rattle.std.specs.Prelude.{◌≡◌, Some, IfOk, find, map, option_copied, string_bytes};
-ghost use Rattle.std.specs.Str.{bytes_eq};
+ghost use Rattle.std.specs.Prelude.{◌≡◌, IfOk, map, string_bytes};
 ghost use Rattle.uxn_arguments.specs.Options.{HasBudget};
-ghost use Rattle.uxn_arguments.specs.Words.{command_of, command_task, task_of};
+ghost use Rattle.uxn_arguments.specs.Words.{command_task, task_of};
 ghost use Rattle.uxn_arguments.specs.ReadsArguments.{ReadsArguments};
 
 use super::task::Task;
 use std::alloc::{AllocError, Global};
+use text_lines::{Named, value_named};
 use uxn_io_traits::Bytes;
 
 /// What the program is asked to do.
@@ -58,7 +58,7 @@ impl From<AllocError> for WordStop {
 }
 
 /// The commands by their names.
-pub(crate) static COMMANDS: [(&str, Command); 6] = [
+pub(crate) static COMMANDS: [Named<Command>; 6] = [
     ("play", Command::Play),
     ("debug", Command::Debug),
     ("asm", Command::Assemble),
@@ -66,26 +66,6 @@ pub(crate) static COMMANDS: [(&str, Command); 6] = [
     ("gen", Command::Generate),
     ("line", Command::Line),
 ];
-
-/// The command of a name.
-fn command_named(name: &[u8]) -> Option<Command>
-    ensures { result ≡ command_of name.now }
-{
-    match row_named(COMMANDS.as_slice(), name) {
-        Some(row) => Some(row.1),
-        None => None,
-    }
-}
-
-/// The row of a name.
-fn row_named<'a>(
-    rows: &'a [(&'static str, Command)],
-    name: &[u8],
-) -> Option<&'a (&'static str, Command)>
-    ensures { option_copied result ≡ find (λ row. bytes_eq row.0.now name.now) rows.now }
-{
-    rows.iter().find(|row| row.0.as_bytes() == name)
-}
 
 impl Command {
     /// What the words after the command's name ask for.
@@ -110,7 +90,7 @@ pub fn read_words(alloc: Global, words: &[String]) -> Result<Task, WordStop>
     let Some((name, rest)) = words.split_first() else {
         return Err(WordStop::Refused(WordFault::NotUnderstood));
     };
-    match command_named(name.as_bytes()) {
+    match value_named(COMMANDS.as_slice(), name.as_bytes()) {
         Some(command) => command.read(alloc, rest),
         None => Err(WordStop::Refused(WordFault::NotUnderstood)),
     }

@@ -24,7 +24,7 @@ use tal_assembly::SourceFault;
 use tal_rom::{Assembly, assemble};
 use tal_words::AsmStop;
 use uxn_inquiry::Halt;
-use uxn_io::MemTree;
+use uxn_io_traits::NoTree;
 use uxn_limits::limits;
 use uxn_task_files::{Refusal, validate_script};
 use uxn_workload::{GrowingSink, Ran, source};
@@ -57,7 +57,7 @@ fn sum_up(
     ran.summary(alloc)
 }
 
-/// Runs a new machine with a tree and an error output of its own. A fault of these is running out of memory.
+/// Runs a new machine without files, and with an error output of its own. A fault of an output is running out of memory.
 fn run_alone(
     alloc: Global,
     machine: &mut Machine,
@@ -74,7 +74,7 @@ fn run_alone(
         },
         budget: limits::USUAL_BUDGET,
     };
-    let mut tree = MemTree::new(alloc, &[], 0, 0, &[])?;
+    let mut tree = NoTree;
     let mut err = GrowingSink::new(alloc);
     let mut host = Host {
         tree: &mut tree,

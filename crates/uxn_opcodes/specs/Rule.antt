@@ -73,6 +73,9 @@ pub record Begun : Type 0 where
   pub core : Core
   pub access : Access
 
+abbrev pub begun_as : Core → Access → Begun
+begun_as core access = record { core = core; access = access }
+
 -- the rule: the pointer of this stack is lowered past the operands unless keep mode is set; memory, the next
 -- address and the other stack change; and the results are pushed on this stack at the pointer as it now stands
 abbrev pub ruled : Mode → Sides → OpEffect → Sides
@@ -129,10 +132,10 @@ immediate code core =
 -- a row's instruction, from the machine past the opcode, up to its port access
 abbrev pub row_begun : Op → Mode → Core → Begun
 row_begun op mode core = let s = sides_of mode.returns core in let op_effect = op_effect_of op mode s in
-    record { core = core_of mode.returns (ruled mode s op_effect); access = op_effect.access }
+    begun_as (core_of mode.returns (ruled mode s op_effect)) op_effect.access
 
 abbrev pub begun_by : Option Op → ℕ → Core → Begun
-begun_by None code core = record { core = immediate code core; access = Nothing }
+begun_by None code core = begun_as (immediate code core) Nothing
 begun_by (Some op) code core = row_begun op (mode_of code) core
 
 -- the instruction of a code up to its port access, and the one that a machine is at

@@ -10,6 +10,7 @@ ghost use Rattle.uxn_opcodes.specs.Rule.{
   past_opcode,
   immediate,
   begun,
+  begun_as,
   begun_with,
   row_begun,
   jumped,
@@ -283,8 +284,7 @@ fn finish<P: Ports>(
 /// Runs the instruction of a code that is a constant, and so are its operation and its mode: all but its port access,
 /// which is told, and the next address.
 fn run<const CODE: u8>(core: &mut Core, at: u16) -> (Access, u16)
-    ensures core { moved core.new result.1 ≡ (begun_with CODE (moved core.old at)).core }
-    ensures access { result.0 ≡ (begun_with CODE (moved core.old at)).access }
+    ensures { begun_as (moved core.new result.1) result.0 ≡ begun_with CODE (moved core.old at) }
 {
     let mode = Mode::of(CODE);
     let mut next = at.wrapping_add(1);
@@ -330,8 +330,7 @@ macro_rules! run_code {
 /// `at` is no reference: the proof of so many arms is long, and the longer the more is borrowed in each.
 #[inline(always)]
 fn run_any(core: &mut Core, at: u16, code: u8) -> (Access, u16)
-    ensures core { moved core.new result.1 ≡ (begun_with code (moved core.old at)).core }
-    ensures access { result.0 ≡ (begun_with code (moved core.old at)).access }
+    ensures { begun_as (moved core.new result.1) result.0 ≡ begun_with code (moved core.old at) }
 {
     run_code!(code, core, at,
         0x00 0x01 0x02 0x03 0x04 0x05 0x06 0x07 0x08 0x09 0x0a 0x0b 0x0c 0x0d 0x0e 0x0f

@@ -23,6 +23,10 @@ pub record IsApart (path : List ℕ) (root : Option (List ℕ)) (one other : Fil
 abbrev pub IsSeparateFrom : List ℕ → DeviceState → Type 0
 IsSeparateFrom path devices = IsApart path devices.root devices.first_file devices.second_file
 
+-- changes leave a path alone, and it lies apart from the devices behind them
+abbrev pub LeftAlone : List ℕ → List Change → DeviceState → Type 0
+LeftAlone path changes devices = AllByRecursion (Spares path) changes × IsSeparateFrom path devices
+
 -- a change within a footprint leaves such a path alone
 within-spares : (path : List ℕ) (print : Footprint) (root : Option (List ℕ)) → IsOutside root path → (change : Change)
     → IsWithin print root change → Spares path change
@@ -33,10 +37,10 @@ within-spares path print root outside (ToFile other byte) within =
     lies-elsewhere root path outside (ToFile other byte) within
 within-spares path print root outside (Removes other) within = lies-elsewhere root path outside (Removes other) within
 
--- so do a write and an instruction, and the file devices suit the root still
+-- a write and an instruction leave such a path alone, and the file devices suit the root still
 effect-spares : (path : List ℕ) (devices : DeviceState) (core : Core) (port byte : ℕ) (changes : List Change) → IsSeparateFrom path devices
     → AllByRecursion (Spares path) changes
-    → AllByRecursion (Spares path) (changes ++ (effect devices core port byte).changes) × IsSeparateFrom path (effect devices core port byte).devices
+    → let done = effect devices core port byte in LeftAlone path (changes ++ done.changes) done.devices
 effect-spares path devices core port byte changes apart spares =
     let print = footprint (action_of port) in
     let keeps = effect-keeps devices core port byte in
@@ -48,7 +52,7 @@ effect-spares path devices core port byte changes apart spares =
     )
 
 pub instruction-spares : (path : List ℕ) (devices : DeviceState) (core : Core) → IsSeparateFrom path devices
-    → AllByRecursion (Spares path) (instruction_effect devices core).changes × IsSeparateFrom path (instruction_effect devices core).devices
+    → let done = instruction_effect devices core in LeftAlone path done.changes done.devices
 instruction-spares path devices core apart =
     instruction-holds (λ changes writes. AllByRecursion (Spares path) changes) (IsSeparateFrom path)
     (λ devices core port byte changes writes apart spares. effect-spares path devices core port byte changes apart spares) devices core apart tt

@@ -28,5 +28,5 @@ run_machine-requires-clause-devices c =
 pub returns : goal.returns
 returns c =
     let root : c.args.machine.now.devices.root ≡ None = (c.requires.devices fin.empty false).root in
-    let ran = c.run_machine.ensures.runs.from no_root_view (sym root) (refl, refl) in
+    let ran = c.run_machine.ensures.runs.from no_root_view (sym root) (refl, refl, refl) in
     rw c.or.ensures (has-run _ _ _ _ _ _ c.run_machine.result (ap Some c.requires.empty) (search rules) ran)
