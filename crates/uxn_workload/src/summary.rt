@@ -4,7 +4,7 @@ ghost use Rattle.std.specs.List.{flat_map};
 ghost use Rattle.uxn_workload.specs.Summary.{line, digits, summary_of, summary_text};
 
 use std::alloc::{AllocError, Global};
-use uxn_io_traits::{decimal, hex_byte};
+use uxn_io_traits::{append_pieces, decimal, hex_byte};
 
 /// A workload that ran.
 #[derive(Clone, Copy)]
@@ -31,10 +31,7 @@ pub struct Ran<'a> {
 fn push_count(text: &mut Vec<u8>, name: &[u8], count: u64) -> Result<(), AllocError>
     ensures { OnOk result (text.new.items ≡ text.old.items ++ line name.now (decimal count)) }
 {
-    text.extend_from_slice(name)?;
-    text.extend_from_slice(b" ")?;
-    text.extend_from_slice(&decimal(count))?;
-    text.extend_from_slice(b"\n")
+    append_pieces(text, &[name, b" ", decimal(count).as_slice(), b"\n"])
 }
 
 /// Puts lines, each with a name and a number, behind a text.
