@@ -52,6 +52,14 @@ impl AssembledSource {
         self.paths.as_slice()
     }
 
+    /// What the text is assembled to, and the files that were read beside the main source; the text is given up.
+    pub fn into_parts(self) -> (Assembly, Vec<Path>)
+        ensures assembly { result.0 ≡ self.assembly }
+        ensures paths { result.1.items ≡ self.paths }
+    {
+        (self.assembly, self.paths)
+    }
+
     /// What the text is assembled to.
     pub fn assembly(&self) -> &Assembly
         ensures { result.now ≡ self.now.assembly }

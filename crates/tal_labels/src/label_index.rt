@@ -80,6 +80,13 @@ impl LabelIndex {
         self.addresses.get(name).copied()
     }
 
+    /// The labels in order, without their index.
+    pub fn into_labels(self) -> Vec<Label>
+        ensures { result.items ≡ self }
+    {
+        self.labels
+    }
+
     /// The labels in order.
     pub fn as_slice(&self) -> &[Label]
         ensures { result.now ≡ self.now }

@@ -60,6 +60,13 @@ impl Placed {
         self.labels.as_slice()
     }
 
+    /// The labels in order of definition, all else given up.
+    pub fn into_labels(self) -> Vec<Label>
+        ensures { result.items ≡ self.labels }
+    {
+        self.labels.into_labels()
+    }
+
     /// The address of the label of a full name.
     pub fn address_of(&self, name: &[u8]) -> Option<u16>
         ensures { result ≡ address_named self.now.labels name.now }

@@ -59,6 +59,15 @@ impl Assembly {
     {
         self.placed.labels()
     }
+
+    /// The bytes and the labels, all else given up.
+    pub fn into_parts(self) -> (Vec<u8>, Vec<Label>)
+        ensures rom { result.0.items ≡ self.rom }
+        ensures labels { result.1.items ≡ self.labels }
+        ensures room { length result.0.items ≤ rom_limit }
+    {
+        (self.rom, self.placed.into_labels())
+    }
 }
 
 /// The assembly of a source, or its first fault: that of the first phase that has one, at its first

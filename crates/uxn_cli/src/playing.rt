@@ -39,7 +39,7 @@ use vector_loop::NoWatch;
 pub struct Prepared {
     /// The machine.
     pub machine: Box<Machine>,
-    /// The program, which may have labels, and whose source may include files.
+    /// The program.
     pub program: Program,
     /// The session of a debugger.
     pub session: Option<Box<Session>>,
@@ -101,7 +101,7 @@ fn ready(
         script,
         commands,
     } = inputs;
-    let machine = new_machine(alloc, run.root, program.rom(), script)?;
+    let machine = new_machine(alloc, run.root, program.rom.as_slice(), script)?;
     let session = open_session(alloc, debug, commands, given)?;
     let outputs = new_outputs(alloc, run, debug)?;
     Ok(Prepared {
@@ -203,7 +203,7 @@ pub fn play<T: Tree, O: Sink, E: Sink>(
     ensures same { SameHost host.old host.new }
 {
     let prepared = prepare(alloc, run, debug, host.tree)?;
-    make_outputs(prepared.program.included(), &prepared.outputs, host.tree)?;
+    make_outputs(&prepared.program.included, &prepared.outputs, host.tree)?;
     match run_prepared(alloc, run, prepared, host) {
         Ok(end) => Ok(end.exit),
         Err(stop) => Err(Halt::Stopped(stop)),

@@ -2,21 +2,23 @@
 use Rattle.std.specs.Prelude.{◌≡◌, ℕ, ◌≤◌, List, length, All, Option, option_map}
 use Rattle.std.specs.Global.{Vec}
 use Rattle.play_script.specs.Held.{bytes_in}
+use Rattle.tal_assembly.specs.Sources.{SourceView}
 use Rattle.tal_words.specs.declared.name.Label.{Label}
 use Rattle.uxn_io_traits.specs.ByteList.{ByteList}
 use Rattle.uxn_memory.specs.Bytes.{largest_rom}
 use Rattle.uxn_task_files.specs.declared.assembling.Written.{Written}
 use Rattle.uxn_task_files.specs.declared.machines.LineInputs.{LineInputs}
 use Rattle.uxn_task_files.specs.declared.program.Program.{Program}
-use Rattle.uxn_task_files.specs.declared.program.Program.TheVariants.{Rom, Source}
 use Rattle.uxn_task_files.specs.declared.run_inputs.RunInputs.{RunInputs}
-use Rattle.uxn_task_files.specs.Accepted.{Loaded, loaded_rom, debug_labels, GivenInputs, SourceFiles, Machines}
+use Rattle.uxn_task_files.specs.Accepted.{Loaded, debug_labels, GivenInputs, SourceFiles, Machines}
 use Rattle.uxn_task_files.specs.Outputs.{observed_texts}
 
--- a program that was loaded
+-- a program that was loaded, and what is loaded of a source
 abbrev pub model_of_program : Program → Loaded
-model_of_program (Rom rom) = loaded_rom rom.list
-model_of_program (Source source) = record { rom = source.value.assembly.rom; labels = source.value.assembly.labels; included = source.value.paths }
+model_of_program program = record { rom = program.rom.list; labels = program.labels.items; included = program.included.items }
+
+abbrev pub model_of_source : SourceView → Loaded
+model_of_source source = record { rom = source.assembly.rom; labels = source.assembly.labels; included = source.paths }
 
 -- labels that a symbol file gave, and the labels of a debugger: those, else those of the source
 abbrev pub model_of_labels : Option (Vec Label) → Option (List Label)

@@ -9,6 +9,7 @@ ghost use Rattle.uxn_task_files.specs.Accepted.{machine_of, machines_of, said_se
 ghost use Rattle.uxn_task_files.specs.Held.{AreMachines, model_of_machines};
 
 use super::inputs::{InputKind, read_text};
+use super::program::Program;
 use super::refusal::Refusal;
 use super::scripts::accept_script;
 use super::sources::accept_source;
@@ -56,7 +57,7 @@ fn accept_machine<T: Tree>(alloc: Global, path: &Path, tree: &mut T) -> Result<B
     ensures fits { IfOk result (λ rom. length rom.list ≤ largest_rom) }
 {
     let source = accept_source(alloc, path, tree)?;
-    Bytes::new(alloc, source.assembly().rom()).map_err(Halt::from)
+    Ok(Program::from(source).rom)
 }
 
 /// The ROMs of all machines, one after the other.

@@ -1,5 +1,5 @@
 //! The program that is run: a ROM, or a source that is assembled.
-ghost use Rattle.std.specs.Prelude.{◌≡◌, ◌≤◌, length, IfOk};
+ghost use Rattle.std.specs.Prelude.{◌≤◌, length, IfOk};
 ghost use Rattle.uxn_memory.specs.Bytes.{largest_rom};
 ghost use Rattle.uxn_inquiry.specs.Inquires.{Inquires};
 ghost use Rattle.uxn_task_files.specs.Accepted.{program_of};
@@ -14,43 +14,31 @@ use tal_words::Label;
 use uxn_inquiry::Halt;
 use uxn_io_traits::{Bytes, Path, Tree};
 
-/// A program that is accepted.
+/// What a run has of a program that is accepted.
 #[derive(Drop)]
-pub enum Program {
-    /// A ROM file.
-    Rom(Bytes),
-    /// A source without a fault, and its assembly.
-    Source(Box<AssembledSource>),
+pub struct Program {
+    /// The ROM.
+    pub rom: Bytes,
+    /// The labels of its source; a ROM file has none.
+    pub labels: Vec<Label>,
+    /// The files that its source includes; a ROM file has none.
+    pub included: Vec<Path>,
 }
 
-impl Program {
-    /// The ROM.
-    pub fn rom(&self) -> &[u8]
-        ensures { result.now ≡ (model_of_program self.now).rom }
-    {
-        match self {
-            Program::Rom(rom) => rom.as_slice(),
-            Program::Source(source) => source.assembly().rom(),
-        }
-    }
+/// A source is not needed once it is assembled.
+impl From<AssembledSource> for Program {
+    ghost use Rattle.std.specs.Prelude.{◌≡◌};
+    ghost use Rattle.uxn_task_files.specs.Held.{model_of_program, model_of_source};
 
-    /// The labels of the source.
-    pub fn labels(&self) -> &[Label]
-        ensures { result.now ≡ (model_of_program self.now).labels }
-    {
-        match self {
-            Program::Rom(_) => &[],
-            Program::Source(source) => source.assembly().labels(),
-        }
-    }
+    ghost from_gives = { λ source program. model_of_program program ≡ model_of_source source };
 
-    /// The files that the source includes.
-    pub fn included(&self) -> &[Path]
-        ensures { result.now ≡ (model_of_program self.now).included }
-    {
-        match self {
-            Program::Rom(_) => &[],
-            Program::Source(source) => source.paths(),
+    fn from(source: AssembledSource) -> Program {
+        let (assembly, included) = source.into_parts();
+        let (rom, labels) = assembly.into_parts();
+        Program {
+            rom: Bytes::from(rom),
+            labels,
+            included,
         }
     }
 }
@@ -67,10 +55,13 @@ pub fn accept_program<T: Tree>(
 {
     if rom {
         let rom = read_text(alloc, InputKind::Rom, path, tree)?;
-        Ok(Program::Rom(rom))
+        Ok(Program {
+            rom,
+            labels: Vec::new(alloc),
+            included: Vec::new(alloc),
+        })
     } else {
         let source = accept_source(alloc, path, tree)?;
-        let boxed = Box::new(alloc, source)?;
-        Ok(Program::Source(boxed))
+        Ok(Program::from(source))
     }
 }

@@ -78,5 +78,5 @@ pub fn read_run<T: Tree>(
 pub fn labels_of<'a>(program: &'a Program, given: &'a Option<Vec<Label>>) -> &'a [Label]
     ensures { result.now ≡ model_of_debug_labels (model_of_program program.now) given.now }
 {
-    labels_or(given, program.labels())
+    labels_or(given, &program.labels)
 }

@@ -13,7 +13,7 @@ pub make_outputs-requires : goal.make_outputs-requires
 make_outputs-requires g c = record {
   task = tasks.Run c.args.run.now c.args.debug.now;
   apart = c.requires.apart;
-  outputs = ap paths_of c.deref.ensures.value ∙ c.in_ok-prepared.ensures.ready.outputs;
+  outputs = ap paths_of c.deref-2.ensures.value ∙ c.in_ok-prepared.ensures.ready.outputs;
 }
 
 pub returns-in_err-make_outputs-clause-does : goal.returns-in_err-make_outputs-clause-does
@@ -22,31 +22,31 @@ returns-in_err-make_outputs-clause-does g c =
     let planned = accepted-after (prepared_plan c.args.run.now) task _ _ c.in_ok-prepared.prepared c.in_ok-prepared.ensures.prepares in
     let result : c.from_residual-in_err-make_outputs.result ≡ Err c.in_err-make_outputs.field-0.0 = search rules in
     rw result (does-behind (prepared_plan c.args.run.now) task _ _ _ _ _ _ c.in_ok-prepared.prepared c.in_ok-prepared.ensures.prepares
-    (does-unmade task _ _ c.included.result.now (rw (← c.included.ensures) at planned) _ _ _ c.in_err-make_outputs.field-0.0
-    (subst (λ paths. MakesOutputs c.included.result.now paths (g.T.Tree.state c.prepare.new.tree) (g.T.Tree.state c.make_outputs.new.tree)
+    (does-unmade task _ _ c.deref.result.now (rw (← c.deref.ensures.value) at planned) _ _ _ c.in_err-make_outputs.field-0.0
+    (subst (λ paths. MakesOutputs c.deref.result.now paths (g.T.Tree.state c.prepare.new.tree) (g.T.Tree.state c.make_outputs.new.tree)
     (Err c.in_err-make_outputs.field-0.0))
-    (ap paths_of c.deref.ensures.value ∙ c.in_ok-prepared.ensures.ready.outputs) c.in_err-make_outputs.ensures)))
+    (ap paths_of c.deref-2.ensures.value ∙ c.in_ok-prepared.ensures.ready.outputs) c.in_err-make_outputs.ensures)))
 
 pub run_prepared-requires-clause-files : goal.run_prepared-requires-clause-files
 run_prepared-requires-clause-files g c =
     let ready = c.in_ok-prepared.ensures in
     ready-files _ _ _ _ _ _ ready.prepares ready.ready c.requires.apart
-    (rw (c.deref.ensures.value, ready.ready.outputs, c.included.ensures) at c.in_ok-make_outputs.ensures)
+    (rw (c.deref-2.ensures.value, ready.ready.outputs, c.deref.ensures.value) at c.in_ok-make_outputs.ensures)
 
 pub run_prepared-requires-clause-log : goal.run_prepared-requires-clause-log
 run_prepared-requires-clause-log g c =
     let ready = c.in_ok-prepared.ensures in
     ready-log _ _ _ _ _ _ ready.prepares ready.ready c.requires.apart
-    (rw (c.deref.ensures.value, ready.ready.outputs, c.included.ensures) at c.in_ok-make_outputs.ensures)
+    (rw (c.deref-2.ensures.value, ready.ready.outputs, c.deref.ensures.value) at c.in_ok-make_outputs.ensures)
 
 pub returns-in-Ok-clause-does : goal.returns-in-Ok-clause-does
 returns-in-Ok-clause-does g c =
     let ready = c.in_ok-prepared.ensures in
-    let made = rw (c.deref.ensures.value, ready.ready.outputs, c.included.ensures) at c.in_ok-make_outputs.ensures in
+    let made = rw (c.deref-2.ensures.value, ready.ready.outputs, c.deref.ensures.value) at c.in_ok-make_outputs.ensures in
     does-run _ _ _ _ _ _ ready.prepares ready.ready c.requires.apart made _ _ _ c.in-Ok.ensures.refusals (Ok c.in-Ok.end) c.in-Ok.ensures.runs
 
 pub returns-in-Err-clause-does : goal.returns-in-Err-clause-does
 returns-in-Err-clause-does g c =
     let ready = c.in_ok-prepared.ensures in
-    let made = rw (c.deref.ensures.value, ready.ready.outputs, c.included.ensures) at c.in_ok-make_outputs.ensures in
+    let made = rw (c.deref-2.ensures.value, ready.ready.outputs, c.deref.ensures.value) at c.in_ok-make_outputs.ensures in
     does-run _ _ _ _ _ _ ready.prepares ready.ready c.requires.apart made _ _ _ c.in-Err.ensures.refusals (Err c.in-Err.stop) c.in-Err.ensures.runs

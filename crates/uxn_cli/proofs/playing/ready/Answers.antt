@@ -3,7 +3,7 @@ use Rattle.uxn_cli.proofs.playing.ready.Goals as goal
 
 pub returns-clause-ready : goal.returns-clause-ready
 returns-clause-ready c = record {
-  core = c.in_ok-machine.ensures.core ∙ ap new_core c.rom.ensures;
+  core = c.in_ok-machine.ensures.core ∙ ap new_core c.as_slice.ensures;
   devices = rw c.in_ok-machine.ensures.script c.in_ok-machine.ensures.devices;
   undo = c.in_ok-session.ensures.undo;
   outputs = c.in_ok-outputs.ensures;

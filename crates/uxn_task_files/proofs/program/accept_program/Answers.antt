@@ -1,9 +1,7 @@
-use Rattle.uxn_task_files.proofs.Common.{◌≡◌, Err, Ok, ap, refl, rules, sourced_of, inquires-stop, inquires-last}
+use Rattle.uxn_task_files.proofs.Common.{◌≡◌, Err, Ok, ap, rules, sourced_of, inquires-stop, inquires-last}
 unfoldable use Rattle.uxn_task_files.proofs.Common.{program_of}
 use Rattle.uxn_task_files.specs.Accepted.{loaded_source}
 use Rattle.uxn_task_files.specs.Held.{model_of_program}
-use Rattle.uxn_task_files.specs.declared.program.Program.TheVariants.{Source}
-use Rattle.uxn_inquiry.specs.declared.halt.Halt.TheVariants.{NoMemory}
 use Rattle.uxn_task_files.proofs.program.accept_program.Goals as goal
 
 pub returns-in_err-rom-clause-loads : goal.returns-in_err-rom-clause-loads
@@ -20,17 +18,10 @@ returns-in_err-source-clause-loads g c =
 
 pub returns-in_ok-rom-clause-loads : goal.returns-in_ok-rom-clause-loads
 unfolding program_of
-returns-in_ok-rom-clause-loads g c = rw c.if-rom.true (inquires-last _ _ _ _ _ _ _ _ c.in_ok-rom.ensures.text refl)
+returns-in_ok-rom-clause-loads g c = rw c.if-rom.true (inquires-last _ _ _ _ _ _ _ _ c.in_ok-rom.ensures.text (search rules))
 
-pub returns-in_err-boxed-clause-loads : goal.returns-in_err-boxed-clause-loads
+pub returns-in_ok-source-clause-loads : goal.returns-in_ok-source-clause-loads
 unfolding program_of
-returns-in_err-boxed-clause-loads g c =
-    let result : c.from_residual-in_err-boxed.result ≡ Err NoMemory = search rules in
-    rw (c.if-rom.false, result) (inquires-last _ _ _ _ _ _ _ _ c.in_ok-source.ensures.source tt)
-
-pub returns-in_ok-boxed-clause-loads : goal.returns-in_ok-boxed-clause-loads
-unfolding program_of
-returns-in_ok-boxed-clause-loads g c =
-    let loaded : loaded_source (sourced_of c.in_ok-source.source) ≡ model_of_program (Source c.in_ok-boxed.boxed) =
-    rw c.in_ok-boxed.ensures.ok (search rules) in
+returns-in_ok-source-clause-loads g c =
+    let loaded : loaded_source (sourced_of c.in_ok-source.source) ≡ model_of_program c.from.result = rw c.from.ensures (search rules) in
     rw c.if-rom.false (inquires-last _ _ _ _ _ _ _ _ c.in_ok-source.ensures.source (ap Ok loaded))
