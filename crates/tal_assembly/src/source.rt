@@ -45,14 +45,8 @@ impl AssembledSource {
         self.text.as_slice()
     }
 
-    /// The files that were read beside the main source, in the order of reading.
-    pub fn paths(&self) -> &[Path]
-        ensures { result.now ≡ self.now.paths }
-    {
-        self.paths.as_slice()
-    }
-
-    /// What the text is assembled to, and the files that were read beside the main source; the text is given up.
+    /// What the text is assembled to, and the files that were read beside the main source, in the order of reading. The text is
+    /// given up.
     pub fn into_parts(self) -> (Assembly, Vec<Path>)
         ensures assembly { result.0 ≡ self.assembly }
         ensures paths { result.1.items ≡ self.paths }

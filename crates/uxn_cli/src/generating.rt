@@ -8,7 +8,7 @@ ghost use Rattle.uxn_line.specs.Streams.{run_of};
 ghost use Rattle.uxn_workload.specs.Summary.{summary_text};
 ghost use Rattle.uxn_cli.specs.Prepared.{AreNew};
 ghost use Rattle.uxn_cli.specs.Workload.{HasRunAlone, lone_trace, run_summary, workload_text};
-ghost use Rattle.tal_rom.specs.Assembly.{IsAssembled};
+ghost use Rattle.tal_rom.specs.Assembly.{rom_of};
 ghost use Rattle.tal_assembly.specs.Sources.{own_answer};
 ghost use Rattle.uxn_inquiry.specs.Inquires.{Says};
 ghost use Rattle.uxn_inquiry.specs.Inquiry.{result_as};
@@ -21,7 +21,7 @@ use super::running::{RunEnd, Settings, run_machine};
 use play_script::Script;
 use std::alloc::{AllocError, Global};
 use tal_assembly::SourceFault;
-use tal_rom::{Assembly, assemble};
+use tal_rom::assemble;
 use tal_words::AsmStop;
 use uxn_inquiry::Halt;
 use uxn_io_traits::NoTree;
@@ -114,13 +114,14 @@ fn run_workload(
     sum_up(alloc, source, rom, &end, &out)
 }
 
-/// The assembly of a workload.
-fn assembly_of(alloc: Global, source: &[u8]) -> Result<Assembly, Halt<Refusal>>
+/// The ROM of a workload.
+fn assembled_rom(alloc: Global, source: &[u8]) -> Result<Vec<u8>, Halt<Refusal>>
     ensures says { Says (λ _. record { text = source.now; paths = [] }) (result_as Faulty (own_answer source.now)) result }
-    ensures assembled { IfOk result (λ assembly. IsAssembled source.now (Ok assembly)) }
+    ensures rom { IfOk result (λ rom. rom.items ≡ rom_of source.now) }
+    ensures room { IfOk result (λ rom. length rom.items ≤ rom_limit) }
 {
     match assemble(alloc, source) {
-        Ok(assembly) => Ok(assembly),
+        Ok(assembly) => Ok(assembly.into_parts().0),
         Err(AsmStop::Refused(fault)) => {
             let own = SourceFault::own(alloc, source, &fault)?;
             Err(Halt::Refused(Refusal::Faulty(own)))
@@ -145,6 +146,6 @@ pub fn summarize(alloc: Global, count: u16) -> Result<Vec<u8>, Halt<Refusal>>
     ensures { Says (λ text. text.items) (accepted_summary count) result }
 {
     let text = source(alloc, count)?;
-    let assembly = assembly_of(alloc, &text)?;
-    summary_of(alloc, &text, assembly.rom())
+    let rom = assembled_rom(alloc, &text)?;
+    summary_of(alloc, &text, &rom)
 }

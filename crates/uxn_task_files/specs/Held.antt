@@ -38,7 +38,7 @@ model_of_inputs inputs = record {
 
 -- the files that are written out of a source
 abbrev pub model_of_files : Written → SourceFiles
-model_of_files written = record { texts = observed_texts written.outputs.items; included = written.source.paths }
+model_of_files written = record { texts = observed_texts written.outputs.items; included = written.included.items }
 
 -- the machines of a setup
 abbrev pub model_of_machines : LineInputs → Machines

@@ -90,11 +90,11 @@ fn outputs_of(
     Ok(outputs)
 }
 
-/// A source that is accepted, and the files that are written out of it.
+/// What is written out of a source that is accepted.
 #[derive(Drop)]
 pub struct Written {
-    /// The source, which may include files.
-    pub source: AssembledSource,
+    /// The files that the source includes.
+    pub included: Vec<Path>,
     /// The files, with what they are to hold.
     pub outputs: Vec<Output>,
 }
@@ -109,16 +109,17 @@ pub fn assemble<T: Tree>(
 {
     let source = accept_source(alloc, &task.file, tree)?;
     let outputs = outputs_of(alloc, task, &source)?;
-    Ok(Written { source, outputs })
+    let (_, included) = source.into_parts();
+    Ok(Written { included, outputs })
 }
 
 /// Writes the files that were requested.
 pub fn write_outputs<T: Tree>(written: &Written, tree: &mut T) -> Result<(), Halt>
     requires { AreApart (paths_of written.now.outputs.items) }
-    ensures { WritesOutputs written.now.source.paths (paths_of written.now.outputs.items) (observed_texts written.now.outputs.items)
+    ensures { WritesOutputs written.now.included.items (paths_of written.now.outputs.items) (observed_texts written.now.outputs.items)
         (T.state tree.old) (T.state tree.new) result }
 {
-    look_at(written.source.paths(), &written.outputs, tree)?;
+    look_at(&written.included, &written.outputs, tree)?;
     match write_all(tree, &written.outputs)? {
         Some(path) => Err(Halt::Refused(Refusal::NoOutput(path))),
         None => Ok(()),

@@ -6,7 +6,7 @@ use Rattle.uxn_cli.proofs.work.write.Goals as goal
 
 -- the files that are written out of a source
 abbrev plan_of_written : Written → Plan
-plan_of_written written = planned (Write (observed_texts written.outputs.items)) written.source.paths
+plan_of_written written = planned (Write (observed_texts written.outputs.items)) written.included.items
 
 pub returns-in_err-written-clause-does : goal.returns-in_err-written-clause-does
 returns-in_err-written-clause-does g c =
@@ -27,8 +27,8 @@ returns-clause-does g c =
     let written = c.in_ok-written.written in
     let asks = inquires-last _ plan_of_written _ _ _ _ written (Ok written) c.in_ok-written.ensures refl in
     let accepted = accepted-after _ task _ _ written asks in
-    let wrote = subst (λ paths. WritesOutputs written.source.paths paths (observed_texts written.outputs.items) (g.T.Tree.state c.assemble.new.tree)
+    let wrote = subst (λ paths. WritesOutputs written.included.items paths (observed_texts written.outputs.items) (g.T.Tree.state c.assemble.new.tree)
     (g.T.Tree.state c.write_outputs.new.tree) c.write_outputs.result)
     (sym (plan-outputs _ task _ accepted ∙ observed_paths written.outputs.items)) c.write_outputs.ensures in
     rw c.and.ensures (does-behind _ task _ _ _ _ _ _ written asks
-    (does-write task _ _ _ _ (observed_texts written.outputs.items) written.source.paths accepted c.write_outputs.result wrote))
+    (does-write task _ _ _ _ (observed_texts written.outputs.items) written.included.items accepted c.write_outputs.result wrote))

@@ -13,4 +13,4 @@ returns-in_err-outputs g c = step-no-memory _ _ _ _ _ _ _ _ (search rules) c.in_
 
 pub returns : goal.returns
 unfolding files_of
-returns g c = step-last _ _ _ _ _ _ _ _ c.in_ok-source.ensures.source (rw c.in_ok-outputs.ensures refl)
+returns g c = step-last _ _ _ _ _ _ _ _ c.in_ok-source.ensures.source (rw (c.in_ok-outputs.ensures, c.into_parts-included.ensures.paths) refl)
