@@ -39,7 +39,7 @@ pub use Rattle.tal_rom.specs.Assembly.{IsAssembled}
 unfoldable pub use Rattle.tal_rom.specs.Assembly.{layout, first_fault, rom_of}
 pub use Rattle.tal_rom.specs.Filling.{overlaid, filled_hole, is_definition, is_reference}
 pub use Rattle.tal_rom.specs.Holes.{known_in, known_address, wanted_of, wanted_in}
-pub use Rattle.tal_rom.specs.Passing.{IsOnItsWay}
+pub use Rattle.tal_rom.specs.Passing.{IsOnItsWay, IsRom, AreAdded}
 pub use Rattle.tal_rom.specs.Patchers.{added_span, span_of_word, IsAbove, IsBelow, AreAscending, WasGiven, WerePatched, PatchModel, PatchHolds}
 pub use Rattle.tal_rom.specs.Patchers.{ComesNext, AreFilled, AreOpen, holes_by, hole_at, name_hole, holes_named, added_in, with_word, with_label}
 pub use Rattle.tal_rom.specs.Patchers.{with_end, model_of}

@@ -1,11 +1,12 @@
 -- The pass over the words of a source, one word further on and at its end.
 use Rattle.tal_rom.proofs.Common.{◌≡◌, ◌<◌, ◌≤◌, length, arith, ℕ, true, List, [], ◌∷◌, ◌++◌, Option, Some, None, cond, refl, sym, ◌∙◌, ap, is_some}
 use Rattle.tal_rom.proofs.Common.{Expanded, Fault, VISIT_LIMIT, Progress, given, words_left, next_word, advanced, given-more, given-few, PlacedWord}
-use Rattle.tal_rom.proofs.Common.{Layout, layout_of, word_added, WereAdded, WerePatched, IsOnItsWay, reference_fault, pieces_of, rom_image, trimmed}
-use Rattle.tal_rom.proofs.Common.{waiting_count, all_fit, image_of, ◌||◌, inl, inr, none_since, place_fault, expansion_fault, expanded_of}
+use Rattle.tal_rom.proofs.Common.{Layout, layout_of, word_added, WereAdded, WerePatched, IsOnItsWay, IsRom, AreAdded, reference_fault, pieces_of, rom_image, Vec}
+use Rattle.tal_rom.proofs.Common.{waiting_count, all_fit, ◌||◌, inl, inr, none_since, place_fault, expansion_fault, expanded_of}
 use Rattle.tal_rom.proofs.Common.{first_fault, layout, labels_of, placed_of}
 use Rattle.tal_labels.specs.declared.placer.Placer.{Placer}
 use Rattle.tal_rom.specs.declared.patcher.Patcher.{Patcher}
+use Rattle.std.specs.Prelude.{MatchOption}
 use Rattle.std.proofs.lemmas.Bool.{cases_Bool}
 use Rattle.tal_labels.proofs.NextWord.{still_faulty, place_faulty, not_given}
 use Rattle.tal_macros.proofs.GivenLemmas.{given-prefix}
@@ -70,11 +71,17 @@ pub contents : (fault : Option Fault) (placed layout : Layout) → Some placed �
     → (fault ≡ None) × (placed ≡ layout)
 contents fault placed layout e = grind arith
 
--- where no word waits and all fit, the references have no fault and the image is the ROM
-pub patched : (source : List ℕ) (words : List Expanded) (placed : Layout) (rom : List ℕ) → placed ≡ layout_of source words
-    → waiting_count source words ≡ 0 → all_fit source words ≡ true
-    → rom ≡ trimmed (image_of source words)
+-- the references have no fault, and the ROM is that of the source
+pub patched : (source : List ℕ) (words : List Expanded) (placed : Layout) (rom : List ℕ) → placed ≡ layout_of source words → IsRom source words rom
     → (reference_fault source placed.labels placed.words ≡ None) × (rom ≡ rom_image (pieces_of source placed.labels placed.words))
-patched source words placed rom laid none fit bytes =
-    let sound = without_known source words none fit in
-    rw laid (sound, bytes ∙ (when_faultless source words sound).2)
+patched source words placed rom laid so =
+    let sound = without_known source words so.known so.fit in
+    rw laid (sound, so.bytes ∙ (when_faultless source words sound).2)
+
+-- all words were added
+pub ended : (source : List ℕ) (placer : Placer) → expansion_fault source ≡ None → WereAdded source (expanded_of source) placer
+    → (found : Option (Vec ℕ)) → MatchOption found (waiting_count source (expanded_of source) ≡ 0 → all_fit source (expanded_of source) ≡ true → ⊥)
+    (λ rom. IsRom source (expanded_of source) rom.items)
+    → MatchOption found (is_some (first_fault source) ≡ true) (λ rom. AreAdded source placer rom.items)
+ended source placer faultless added None unknown = not_known source (expanded_of source) refl unknown
+ended source placer faultless added (Some rom) patched = record { faultless = faultless; added = added; patched = patched }

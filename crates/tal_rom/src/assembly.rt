@@ -7,8 +7,8 @@ ghost use Rattle.tal_labels.specs.Answers.{FindsNone};
 ghost use Rattle.tal_rom.specs.Rom.{rom_limit};
 ghost use Rattle.tal_rom.specs.Assembly.{IsAssembled, first_fault, layout};
 ghost use Rattle.tal_rom.specs.Answers.{CoverOnce};
-ghost use Rattle.tal_rom.specs.Patchers.{WerePatched};
-ghost use Rattle.tal_rom.specs.Passing.{AreAdded, PassGoesOn, IsOnItsWay};
+ghost use Rattle.tal_labels.specs.Placers.{WereAdded};
+ghost use Rattle.tal_rom.specs.Passing.{AreAdded, IsOnItsWay};
 
 use crate::patcher::Patcher;
 use crate::references::check_references;
@@ -95,91 +95,54 @@ fn in_one_pass(alloc: Global, source: &[u8], words: &[Word]) -> Result<Option<As
     requires short { length source.now ≤ TEXT_LIMIT }
     ensures { IfOk result (λ found. MatchOption found (is_some (first_fault source.now) ≡ true) (λ assembly. IsAssembled source.now (Ok assembly))) }
 {
-    let mut patcher = Patcher::new(alloc)?;
-    match add_all(alloc, source, words, &mut patcher)? {
-        Some(placer) => with_all(source, placer, &patcher),
+    let mut placer = Placer::new(alloc);
+    let Some(rom) = patch_all(alloc, source, words, &mut placer)? else {
+        return Ok(None);
+    };
+    match placer.finish() {
+        Some(placed) => Ok(Some(Assembly { rom, placed })),
         None => Ok(None),
     }
 }
 
-/// What a turn of the pass comes to.
-#[derive(Clone, Copy)]
-enum Turn {
-    /// One word more was added.
-    Added,
-    /// All words were added before.
-    Ended,
-    /// There is a fault.
-    Faulty,
+/// The ROM of a source whose words are added to a placer; none where the pass meets a fault.
+fn patch_all(
+    alloc: Global,
+    source: &[u8],
+    words: &[Word],
+    placer: &mut Placer,
+) -> Result<Option<Vec<u8>>, AllocError>
+    requires words { words.now ≡ words_of source.now }
+    requires short { length source.now ≤ TEXT_LIMIT }
+    requires placed { WereAdded source.now [] placer.old }
+    ensures { IfOk result (λ found. MatchOption found (is_some (first_fault source.now) ≡ true) (λ rom. AreAdded source.now placer.new rom.items)) }
+{
+    let mut patcher = Patcher::new(alloc)?;
+    let mut expander = Expander::new(alloc, source, words);
+    add_all(source, &mut expander, placer, &mut patcher)
 }
 
-/// Adds the next word that the expander gives.
-fn add_next(
+/// Adds the words that the expander gives up to the last one, and gives the ROM; none where they have a fault.
+fn add_all(
     source: &[u8],
     expander: &mut Expander,
     placer: &mut Placer,
     patcher: &mut Patcher,
-) -> Result<Turn, AllocError>
+) -> Result<Option<Vec<u8>>, AllocError>
     requires short { length source.now ≤ TEXT_LIMIT }
     requires so { IsOnItsWay source.now expander.old placer.old patcher.old }
-    ensures { IfOk result (λ turn. PassGoesOn source.now expander.old turn expander.new placer.new patcher.new) }
+    ensures { IfOk result (λ found. MatchOption found (is_some (first_fault source.now) ≡ true) (λ rom. AreAdded source.now placer.new rom.items)) }
 {
-    match expander.next() {
-        Ok(Some(word)) => match placer.add(source, word)? {
-            Some(placed) => {
-                patcher.add(source, &placed)?;
-                Ok(Turn::Added)
-            }
-            None => Ok(Turn::Faulty),
-        },
-        Ok(None) => Ok(Turn::Ended),
-        Err(AsmStop::Refused(_)) => Ok(Turn::Faulty),
-        Err(AsmStop::NoMemory) => Err(AllocError),
-    }
-}
-
-/// Adds the words of a source up to the last one; none where they have a fault.
-fn add_all(
-    alloc: Global,
-    source: &[u8],
-    words: &[Word],
-    patcher: &mut Patcher,
-) -> Result<Option<Placer>, AllocError>
-    requires words { words.now ≡ words_of source.now }
-    requires short { length source.now ≤ TEXT_LIMIT }
-    requires patched { WerePatched source.now [] patcher.old }
-    ensures { IfOk result (λ all. MatchOption all (is_some (first_fault source.now) ≡ true) (λ placer. AreAdded source.now placer patcher.new)) }
-{
-    let mut expander = Expander::new(alloc, source, words);
-    let mut placer = Placer::new(alloc);
     loop {
-        match add_next(source, &mut expander, &mut placer, patcher)? {
-            Turn::Added => {}
-            Turn::Ended => return Ok(Some(placer)),
-            Turn::Faulty => return Ok(None),
+        match expander.next() {
+            Ok(Some(word)) => match placer.add(source, word)? {
+                Some(placed) => patcher.add(source, &placed)?,
+                None => return Ok(None),
+            },
+            Ok(None) => return patcher.rom(),
+            Err(AsmStop::Refused(_)) => return Ok(None),
+            Err(AsmStop::NoMemory) => return Err(AllocError),
         }
-    }
-}
-
-/// The assembly of a source whose words were all added; none where one of them has a fault.
-fn with_all(
-    source: &[u8],
-    placer: Placer,
-    patcher: &Patcher,
-) -> Result<Option<Assembly>, AllocError>
-    requires sound { word_fault source.now ≡ None }
-    requires all { AreAdded source.now placer patcher.now }
-    ensures { IfOk result (λ found. MatchOption found (is_some (first_fault source.now) ≡ true) (λ assembly. IsAssembled source.now (Ok assembly))) }
-{
-    if patcher.waiting() > 0 || !patcher.fits() {
-        return Ok(None);
-    }
-    match placer.finish() {
-        Some(placed) => Ok(Some(Assembly {
-            rom: patcher.rom()?,
-            placed,
-        })),
-        None => Ok(None),
     }
 }
 

@@ -1,6 +1,6 @@
 //! Words whose bytes are put into memory as they are added.
 
-ghost use Rattle.std.specs.Prelude.{◌≡◌, ◌<◌, ◌≤◌, ◌^◌, ◌-◌, ◌∷◌, ◌++◌, [], ℕ, List, Some, None, OnOk, OnErr, IfOk, length, Ok, true};
+ghost use Rattle.std.specs.Prelude.{◌≡◌, ◌<◌, ◌≤◌, ◌^◌, ◌-◌, ◌∷◌, ◌++◌, [], ℕ, List, Some, None, OnOk, OnErr, IfOk, MatchOption, length, Ok, true};
 ghost use Rattle.std.specs.Option.{option_map};
 ghost use Rattle.tal_words.specs.declared.span.Expanded.{Expanded as ExpandedWord};
 ghost use Rattle.tal_words.specs.Source.{expanded_text};
@@ -9,7 +9,8 @@ ghost use Rattle.tal_labels.specs.Labels.{defined_name};
 ghost use Rattle.tal_macros.specs.Expansion.{expanded_of};
 ghost use Rattle.tal_rom.specs.Assembly.{layout, rom_of};
 ghost use Rattle.tal_rom.specs.References.{reference_fault};
-ghost use Rattle.tal_rom.specs.Rom.{trimmed, rom_limit};
+ghost use Rattle.tal_rom.specs.Rom.{trimmed};
+ghost use Rattle.tal_rom.specs.Passing.{IsRom};
 ghost use Rattle.tal_rom.specs.Filling.{is_definition};
 ghost use Rattle.tal_rom.specs.Patchers.{PatchModel, PatchHolds, WasGiven, WerePatched, model_of};
 ghost use Rattle.tal_rom.specs.Patching.{waiting_count, all_fit, image_of};
@@ -135,12 +136,16 @@ impl Patcher {
         image
     }
 
-    /// The bytes of the image without the zeros at their end.
-    pub(crate) fn rom(&self) -> Result<Vec<u8>, AllocError>
-        ensures { IfOk result (λ rom. (source : List ℕ) (words : List ExpandedWord) → WerePatched source words self.now
-            → (length rom.items ≤ rom_limit) × (rom.items ≡ trimmed (image_of source words))) }
+    /// The bytes of the image without the zeros at their end; none where a word waits or does not fit.
+    pub(crate) fn rom(&self) -> Result<Option<Vec<u8>>, AllocError>
+        ensures { IfOk result (λ found. (source : List ℕ) (words : List ExpandedWord) → WerePatched source words self.now
+            → MatchOption found (waiting_count source words ≡ 0 → all_fit source words ≡ true → ⊥) (λ rom. IsRom source words rom.items)) }
     {
-        Vec::from_slice(self.alloc, without_last_zeros(self.image()))
+        if self.waiting() > 0 || !self.fits() {
+            return Ok(None);
+        }
+        let rom = Vec::from_slice(self.alloc, without_last_zeros(self.image()))?;
+        Ok(Some(rom))
     }
 }
 

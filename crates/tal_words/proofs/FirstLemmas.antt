@@ -1,6 +1,6 @@
 -- That the first fault is the first.
 use Rattle.std.proofs.Common.{◌≡◌, ◌≤◌, ℕ, Bool, true, false, List, [], ◌∷◌, ◌++◌, Option, Some, None, refl, ap, arith, append-nil, append_assoc, map, subst, sym}
-use Rattle.std.proofs.lemmas.Bool.{and_parts}
+use Rattle.std.proofs.lemmas.Bool.{and_from, and_parts, ltb-true}
 use Rattle.std.proofs.lemmas.Grind.{common_steps}
 use Rattle.std.specs.List.{AllByRecursion, flat_map, list_all}
 use Rattle.std.specs.Prelude.{MatchOption, nat_lt, slice_get}
@@ -19,7 +19,7 @@ no_kind (kind ∷ kinds) none = cc
 above_all : (number : ℕ) (kinds : List FaultKind) → list_all (λ kind. nat_lt number (kind_number kind)) kinds ≡ true
     → AllByRecursion (λ kind. number ≤ kind_number kind) kinds
 above_all number [] all = tt
-above_all number (kind ∷ kinds) all = grind (arith, common_steps, above_all number kinds)
+above_all number (kind ∷ kinds) all = (let parts = and_parts (nat_lt number (kind_number kind)) _ all in (omega (arith, ltb-true number (kind_number kind) parts.0), above_all number kinds parts.1))
 
 least_of : (kinds : List FaultKind) (first : FaultKind) → slice_get kinds 0 ≡ Some first → are_in_order kinds ≡ true
     → AllByRecursion (λ kind. kind_number first ≤ kind_number kind) kinds
@@ -62,7 +62,7 @@ first_is (word ∷ words) = first_step word words (slice_get word.kinds 0) refl 
 left_above : (number : ℕ) (tests : List (Bool × FaultKind)) → list_all (λ kind. nat_lt number (kind_number kind)) (map (λ test. test.1) tests) ≡ true
     → list_all (λ kind. nat_lt number (kind_number kind)) (flat_map (λ test. when test.0 test.1) tests) ≡ true
 left_above number [] all = refl
-left_above number ((true, kind) ∷ tests) all = grind (arith, common_steps, left_above number tests)
+left_above number ((true, kind) ∷ tests) all = (let parts = and_parts (nat_lt number (kind_number kind)) _ all in and_from _ _ parts.0 (left_above number tests parts.1))
 left_above number ((false, kind) ∷ tests) all = left_above number tests (and_parts _ _ all).1
 
 pub left_in_order : (tests : List (Bool × FaultKind)) → are_in_order (map (λ test. test.1) tests) ≡ true

@@ -36,6 +36,9 @@ ended source words k placer past kept flag shaped so o e =
     let sound = placing_next source words None shaped placed in
     (rw sound at (e source words (record { faulty = rw whole.sound flag; kept = λ _. whole })), sound, placed)
 
+inside : (a b : Layout) → Some a ≡ Some b → a ≡ b
+inside a b e = cc
+
 pub loop-word-init : goal.loop-word-init
 unfolding added_fault placing_fault
 loop-word-init c =
@@ -76,13 +79,10 @@ pub returns-clause-value : goal.returns-clause-value
 returns-clause-value c =
     let so = c.loop-word.invariant in
     let all = ended _ _ _ _ c.loop-word-test.false so.kept so.flag c.in_ok-check_shapes.ensures so.sound (Some c.in-Some.placed) c.in-Some.ensures in
-    let equal = all.0 in
-    (all.1, cc)
+    (all.1, inside _ _ all.0)
 
 pub returns-clause-apart : goal.returns-clause-apart
 returns-clause-apart c =
     let so = c.loop-word.invariant in
     let all = ended _ _ _ _ c.loop-word-test.false so.kept so.flag c.in_ok-check_shapes.ensures so.sound (Some c.in-Some.placed) c.in-Some.ensures in
-    let equal = all.0 in
-    let laid : c.in-Some.placed ≡ layout_of c.args.source.now c.args.words.now = cc in
-    rw (ap (λ (layout : Layout). layout.words) laid) (lie_apart c.args.source.now c.args.words.now c.in_ok-check_shapes.ensures all.2)
+    rw (ap (λ (layout : Layout). layout.words) (inside _ _ all.0)) (lie_apart c.args.source.now c.args.words.now c.in_ok-check_shapes.ensures all.2)

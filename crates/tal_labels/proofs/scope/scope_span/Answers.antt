@@ -2,6 +2,7 @@ use Rattle.tal_labels.proofs.Common.{◌≡◌, ℕ, ◌+◌, ◌-◌, ◌≤◌
 use Rattle.tal_labels.proofs.Common.{take-append-le, drop-take, drop-drop, ◌==◌, prefix_len, LabelDef, Span, scope_of, bytes_at}
 use Rattle.std.proofs.Common.{length-take}
 use Rattle.std.proofs.lemmas.List.{length-take}
+use Rattle.std.proofs.lemmas.Grind.{common_steps}
 use Rattle.tal_labels.proofs.LabelNames.{not_empty}
 use Rattle.tal_labels.proofs.scope.scope_span.Goals as goal
 
@@ -30,3 +31,9 @@ split_at-requires c = omega (arith, ap length c.text.ensures, not_empty _ LabelD
 
 pub returns : goal.returns
 returns c = part c.args.source.now c.args.word (length c.scope_of.result.now) (not_empty _ LabelDef c.requires refl) (ap length (c.scope_of.ensures ∙ ap scope_of (c.split_at.ensures.back ∙ ap (drop 1) c.text.ensures)))
+
+pub overflow_add-result : goal.overflow_add-result
+overflow_add-result c = grind (arith, common_steps)
+
+pub overflow_cast-result : goal.overflow_cast-result
+overflow_cast-result c = grind (arith, common_steps)

@@ -1,6 +1,8 @@
 use Rattle.tal_labels.proofs.Common.{◌≡◌, ℕ, ◌-◌, ◌≤◌, List, length, drop, length-drop, true, Some, None, Ok, sym, ◌∙◌, ap, arith, option_map, Span}
 use Rattle.tal_labels.proofs.Common.{bytes_at, Form, LambdaEnd, form, size, ltb, defined_name, is_mark_form, formed_marks, is_defined, kept_by}
-use Rattle.std.proofs.Common.{length-take}
+use Rattle.std.proofs.Common.{length-take, Option, ◌<◌}
+use Rattle.std.specs.Prelude.{OnSome}
+use Rattle.std.specs.Global.{Vec}
 use Rattle.tal_labels.proofs.LayingLemmas.{well_placed}
 use Rattle.tal_words.proofs.BraceLemmas.{form-closes}
 use Rattle.tal_labels.proofs.KeptLemmas.{IsNext, refused_shape, validated_next, next_kept}
@@ -13,6 +15,18 @@ text-short source span = omega (arith, length-take (span.end - span.start) (drop
 -- a `}` is a mark
 mark_closes : (shape : Form) (text : List ℕ) → form text ≡ Ok shape → form text ≡ Ok LambdaEnd → is_mark_form shape ≡ true
 mark_closes shape text e h = ap formed_marks (sym e ∙ h)
+
+-- a word that defines a name is a mark
+named_low : (name : Option (Vec ℕ)) (shape : Form) (scope text : List ℕ) (address : ℕ) → option_map (λ bytes. bytes.items) name ≡ defined_name (Ok shape) scope text
+    → (is_mark_form shape ≡ true → address < 65536) → OnSome name (address < 65536)
+named_low None shape scope text address e low = tt
+named_low (Some bytes) shape scope text address e low = low (grind arith)
+
+pub keep-requires-clause-named : goal.keep-requires-clause-named
+keep-requires-clause-named c =
+    let kept = c.args.self.now in
+    let well = well_placed (is_defined kept.labels (option_map (λ bytes. bytes.items) c.in_ok-name.name)) kept.address (size c.in-Ok.form c.text-text.result.now) (is_mark_form c.in-Ok.form) (ltb kept.address kept.top) (sym c.in_default.ensures) in
+    named_low c.in_ok-name.name c.in-Ok.form _ _ kept.address c.in_ok-name.ensures well.mark
 
 pub keep-requires-clause-closing : goal.keep-requires-clause-closing
 keep-requires-clause-closing c closing =
