@@ -5,7 +5,7 @@ ghost use Rattle.file_ports.specs.Listing.{listing_line, folder_listing};
 use crate::signs::four_signs;
 use std::alloc::{AllocError, Global};
 use std::marker::Model;
-use uxn_io_traits::{Entry, Kind};
+use uxn_io_traits::{Entry, Kind, append_pieces};
 
 /// A folder's listing.
 #[derive(Drop)]
@@ -45,12 +45,19 @@ impl Listing {
 fn put_line(text: &mut Vec<u8>, entry: &Entry) -> Result<(), AllocError>
     ensures { IfOk result (λ _. text.new.items ≡ text.old.items ++ listing_line entry.now) }
 {
-    text.extend_from_slice(&four_signs(entry.kind))?;
-    text.push(b' ')?;
-    text.extend_from_slice(entry.name.bytes())?;
-    if matches!(entry.kind, Kind::Folder) {
-        text.push(b'/')?;
-    }
-    text.push(b'\n')?;
-    Ok(())
+    let mark: &[u8] = if matches!(entry.kind, Kind::Folder) {
+        b"/"
+    } else {
+        b""
+    };
+    append_pieces(
+        text,
+        &[
+            &four_signs(entry.kind),
+            b" ",
+            entry.name.bytes(),
+            mark,
+            b"\n",
+        ],
+    )
 }

@@ -1,4 +1,5 @@
-use Rattle.std.proofs.Common.{◌≡◌, Err, rules, true, false}
+use Rattle.std.proofs.Common.{◌≡◌, Err, arith, rules, true, false}
+use Rattle.std.proofs.lemmas.Grind.{common_steps}
 use Rattle.file_ports.specs.declared.stop.FileStop.TheVariants.{TreeFault}
 use Rattle.file_ports.proofs.ChangeLemmas.{WritesAt, writes_at, write-changes, write-acted}
 use Rattle.file_ports.proofs.device.FileDevice.write.Given.{Over}
@@ -36,3 +37,6 @@ pub returns-else-not-branch-clause-acted : goal.returns-else-not-branch-clause-a
 returns-else-not-branch-clause-acted g c =
     write-acted c.args.at c.args.length c.args.keep _ _ true c.in-Some.path c.slice-piece.result.now c.args.memory.now c.args.self.now _ _
     (writes g (goal.at.returns-else-not-branch-clause-acted g c).After-add) c.in-Some.is c.if-not-branch.false c.in_ok-add-in-Some.ensures.begun
+
+pub overflow_cast-result : goal.overflow_cast-result
+overflow_cast-result g c = grind (arith, common_steps)
