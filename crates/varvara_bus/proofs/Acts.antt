@@ -171,6 +171,15 @@ module _ {T O E : Type 0} (meaning : BusModel T O E) where
     same = devices-same before devices borrowed frames clock root;
   }
 
+  -- the core alone changed, whatever the devices represent
+  pub core_done : (before : Bus T O E) (core new : Core) (action : Action) (byte : ℕ) → asks_tree action ≡ false
+      → ((state : DeviceState) → DevicesRepresent before.devices.now state → act action byte state core ≡ no_effect state new)
+      → HasActed meaning [] before core action byte before new
+  core_done before core new action byte none is = record {
+    does = rw none (λ state stood. rw (is state stood) (record { core = refl; devices = (stood, refl); makes = done-nothing (outside_on meaning before) }));
+    same = devices-same before before.devices refl refl refl refl;
+  }
+
   -- a file device acted, or stopped
   state-files : (number : FileNumber) (outcome : FileOutcome) (state : DeviceState) (contents : Option Nodes)
       → HasFiles contents state.root (files_by state.part outcome.changes) state.parent

@@ -12,7 +12,7 @@ use Rattle.file_ports.specs.Device.{FileState, idle_at, Suits}
 use Rattle.file_ports.specs.Names.{path_named}
 use Rattle.file_ports.specs.RootPart.{IsIn, LieIn}
 use Rattle.file_ports.specs.Actions.{FileAction, Name, Read, Write, Stat, Delete, FileOutcome, Observed, observed_file, acts, act, reads, stats, count_from}
-use Rattle.file_ports.specs.AnswersAction.{AnswersAction, FileStopped, MemoryLeft, outcome_by, changes_unknown, changes_by, device_left, ActedOrStopped}
+use Rattle.file_ports.specs.AnswersAction.{AnswersAction, FileStopped, MemoryLeft, outcome_by, changes_unknown, changes_by, device_left, ActedOrStopped, MayWant, DeviceTakesNames}
 use Rattle.file_ports.specs.PartLaws.{below-files_by, outcome-same}
 use Rattle.uxn_io_traits.specs.EachLaws.{each-parts}
 use Rattle.file_ports.specs.ActLaws.{lie-none, parent-kept, rootless, act-nowhere, changes-of, path-kept}
@@ -21,14 +21,16 @@ use Rattle.file_ports.specs.OutsideLaws.{still-there}
 use Rattle.input_ports.specs.Page.{short_stores}
 use Rattle.varvara_bus.specs.declared.devices.Devices.{Devices}
 use Rattle.varvara_bus.specs.declared.files.Request.{Request}
+use Rattle.varvara_bus.specs.declared.files.Request.TheVariants as requested
 use Rattle.varvara_bus.specs.declared.ports.FileAct.{FileAct}
+use Rattle.varvara_bus.specs.declared.ports.FileAct.TheVariants as acts_on
 use Rattle.varvara_bus.specs.declared.ports.FileNumber.{FileNumber}
 use Rattle.varvara_bus.specs.declared.ports.FileNumber.TheVariants.{First, Second}
 use Rattle.varvara_bus.specs.State.{DeviceState, DevicesRepresent, HasFiles, storing}
 use Rattle.varvara_bus.specs.FileActs.{PortLeft, file_base, file_in, with_file, file_action, file_outcome}
 use Rattle.varvara_bus.specs.Bus.{FilesStay, file_held}
 use Rattle.varvara_bus.specs.Laws.{stand-part, held-file}
-use Rattle.varvara_bus.specs.FileCalls.{action_requested, Performed, FileActed}
+use Rattle.varvara_bus.specs.FileCalls.{action_requested, act_requested, Performed, FileActed}
 
 -- ---- a device and its tree
 
@@ -200,3 +202,12 @@ file-left request number act devices held state memory memory_now contents stop 
           subst (λ device. MemoryLeft (file_action act state.history (file_base number)) device memory contents memory_now) there
           (subst (λ action. MemoryLeft action (file_held number devices) memory contents memory_now) is stopped.memory);
     }
+
+-- memory runs out to a read alone
+pub wants-read : (request : Request) (device : FileState) (contents : Option Nodes) → MayWant (action_requested request) device contents
+    → (act_requested request ≡ acts_on.Read) × DeviceTakesNames device contents
+wants-read (requested.Stat at length) device contents wants = absurd wants
+wants-read requested.Delete device contents wants = absurd wants
+wants-read (requested.Name at) device contents wants = absurd wants
+wants-read (requested.Read at length) device contents wants = (refl, wants)
+wants-read (requested.Write at length keep) device contents wants = absurd wants

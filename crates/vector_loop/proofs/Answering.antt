@@ -168,8 +168,10 @@ module _ {T O E W H : Type 0} (models : Models T O E W H) where
       → BusRepresents (contents_on models.meaning.tree) b.bus.now (change devices))
       → Answers models b c part m r → Answers models a c (λ s. part (record s { devices = change s.devices })) m r
   answers-stored a b c change part m r others_same tally bus others frames devices_now p =
-      let first : Answers models a b (λ s. stays (record s { devices = change s.devices })) none (Ok (tt {0}))
-      = search (arith, rules, answers-change, grown-none) in
+      let prepare : State → State = λ s. record s { devices = change s.devices } in
+      let first : Answers models a b (λ s. stays (prepare s)) none (Ok (tt {0}))
+      = answers-change a b prepare none (tt {0}) others_same bus others (omega (arith, frames)) (rw tally (grown-none a.tally a.budget)) devices_now
+      (λ devices stands. search (arith, rules)) in
       answers-within a c (λ s. part (record s { devices = change s.devices })) (both_counts none m) m r (omega arith) (omega arith)
       (answers-then a b c (λ s. stays (record s { devices = change s.devices })) part none m (tt {0}) r first p)
 

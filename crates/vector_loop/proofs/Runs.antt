@@ -1,13 +1,14 @@
 -- The run of a script, and its end.
+use Rattle.std.specs.Prelude.{IfErr, OnOk, Result, ◌⊎◌}
 use Rattle.vector_loop.proofs.Common.{Answers, Bus, Core, Count, Err, FollowsFrom, Models, NoMemory, Ok, Page, Runner, Running, State, Stop, Tally}
 use Rattle.vector_loop.proofs.Common.{Trace, ap, contents_on, inr, page_in, refl, running, running_state, sym, ◌∙◌, ◌≡◌, arith, rules}
-use Rattle.varvara_bus.specs.Bus.{ReadsPort, held_page}
-use Rattle.vector_loop.specs.Watch.{IsPage, moment_of}
+use Rattle.varvara_bus.specs.Bus.{HasRoot, ReadsPort, held_page}
+use Rattle.vector_loop.specs.Watch.{IsPage, MayRefuse, moment_of}
 use Rattle.vector_loop.specs.Follows.{EndsFrom, FallsShortFrom}
-use Rattle.vector_loop.specs.Stops.{RunStops}
+use Rattle.vector_loop.specs.Stops.{RunStops, StopsInFrom}
 use Rattle.vector_loop.specs.Answers.{moment_in, running_of}
 use Rattle.vector_loop.proofs.Along.{is_page, reached}
-use Rattle.vector_loop.proofs.Stopping.{run-short}
+use Rattle.vector_loop.proofs.Stopping.{run-short, falls_short_from}
 
 module _ {T O E W H : Type 0} (models : Models T O E W H) where
   -- the end was shown, or not
@@ -72,3 +73,30 @@ module _ {T O E W H : Type 0} (models : Models T O E W H) where
       };
     });
   }
+
+  -- what a runner did that was handed back, by the answer
+  pub handed-ok : {X : Type 0} (a b : Runner T O E W) (core : Core) (bus : Bus T O E) (watcher : W) (part : State → Trace) (m : Count)
+      (result : Result X Stop)
+      → core ≡ b.core.now → bus ≡ b.bus.now → watcher ≡ b.watcher.now → Answers models a b part m result
+      → OnOk result (FollowsFrom models (running_of a) (running core bus b.tally watcher) part)
+  handed-ok a b core bus watcher part m (Ok x) is_core is_bus is_watcher answers = rw (is_core, is_bus, is_watcher) answers.reaches
+  handed-ok a b core bus watcher part m (Err stop) is_core is_bus is_watcher answers = tt
+
+  pub handed-stopped : {X : Type 0} (a b : Runner T O E W) (core : Core) (bus : Bus T O E) (watcher : W) (part : State → Trace) (m : Count)
+      (result : Result X Stop)
+      → core ≡ b.core.now → bus ≡ b.bus.now → watcher ≡ b.watcher.now → Answers models a b part m result
+      → IfErr result (λ stop. StopsInFrom models (running_of a) (running core bus b.tally watcher) stop part)
+  handed-stopped a b core bus watcher part m (Ok x) is_core is_bus is_watcher answers = tt
+  handed-stopped a b core bus watcher part m (Err stop) is_core is_bus is_watcher answers = rw (is_core, is_bus, is_watcher) answers.reaches.within
+
+  -- so not all of it was done
+  pub handed-short : {X : Type 0} (before now : Running T O E W) (part : State → Trace) (result : Result X Stop)
+      → IfErr result (λ stop. StopsInFrom models before now stop part) → IfErr result (λ stop. FallsShortFrom models before now stop part)
+  handed-short before now part (Ok x) stopped = tt
+  handed-short before now part (Err stop) stopped = falls_short_from models before now stop part stopped
+
+  -- and memory ran out only to the watcher, or where there is a root
+  pub handed-memory : {X : Type 0} (a b : Runner T O E W) (part : State → Trace) (m : Count) (result : Result X Stop) → Answers models a b part m result
+      → IfErr result (λ stop. stop ≡ NoMemory → MayRefuse models.may_refuse ⊎ HasRoot a.bus.now.devices.now)
+  handed-memory a b part m (Ok x) answers = tt
+  handed-memory a b part m (Err stop) answers = answers.reaches.memory

@@ -132,7 +132,6 @@ fn compare<'a, T: Tree, O: Sink, E: Sink>(
 
 /// Gives one event of a script: its ports are stored, its vector is run unless it is 0, and what is 0 again
 /// after the vector is stored, unless the state is then not 0.
-#[tactic(auto, using(crate::proofs::Stopping::falls_short_from))]
 pub fn run_event<'a, T: Tree, O: Sink, E: Sink, W: Watcher>(
     core: &mut Core,
     bus: &mut Bus<'a, T, O, E>,

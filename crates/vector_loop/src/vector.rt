@@ -124,7 +124,6 @@ impl<'r, 'a, T: Tree, O: Sink, E: Sink, W: Watcher> Runner<'r, 'a, T, O, E, W> {
 }
 
 /// Runs instructions from an address on, up to and with the first BRK, or exactly `budget` of them.
-#[tactic(auto, using(crate::proofs::Stopping::falls_short_from))]
 pub fn run_vector<'a, T: Tree, O: Sink, E: Sink, W: Watcher>(
     core: &mut Core,
     bus: &mut Bus<'a, T, O, E>,

@@ -1,9 +1,9 @@
-use Rattle.std.proofs.Common.{false, true, refl, rules}
-use Rattle.file_ports.specs.declared.stop.FileStop.TheVariants.{TreeFault}
+use Rattle.std.proofs.Common.{false, true, refl, rules, sym, ◌∙◌}
+use Rattle.file_ports.specs.declared.stop.FileStop.TheVariants.{TreeFault, NoMemory}
 use Rattle.file_ports.specs.ActLaws.{changes-lie}
 use Rattle.varvara_bus.specs.Bus.{file_held}
 use Rattle.varvara_bus.specs.FileCalls.{action_requested}
-use Rattle.varvara_bus.proofs.FileCalls.{file-ended, file-acted, files-stay, held-suits, file-left}
+use Rattle.varvara_bus.proofs.FileCalls.{file-ended, file-acted, files-stay, held-suits, file-left, wants-read}
 use Rattle.varvara_bus.proofs.files.act_on_file.Goals as goal
 
 pub returns-in-Ok-clause-tree : goal.returns-in-Ok-clause-tree
@@ -50,4 +50,21 @@ returns-in-Err-TreeFault-clause-acted g c =
       page = c.in-Err-TreeFault.ensures.page;
       rooted = search rules;
       wants = λ is. cc;
+    }
+
+pub returns-in-Err-NoMemory-clause-acted : goal.returns-in-Err-NoMemory-clause-acted
+returns-in-Err-NoMemory-clause-acted g c =
+    let stopped = rw c.in-Err-NoMemory.field-0-is at c.in-Err-NoMemory.ensures.acted in
+    record {
+      cause = NoMemory;
+      is = refl;
+      left = λ state stands.
+          let action = rw c.base.ensures.base at (c.requested-request.ensures.action state stands) in
+          file-left c.requested-request.result c.args.number c.args.act c.args.devices.now c.perform_on.new.devices state c.args.memory.now _ _ _ action stands
+          (c.perform_on.ensures.stands state stands) stopped;
+      page = c.in-Err-NoMemory.ensures.page;
+      rooted = search rules;
+      wants = λ is.
+          let read = wants-read c.requested-request.result _ _ (stopped.wants refl) in
+          (sym c.requested-request.ensures.act ∙ read.0, record { named = stopped.named; names = read.1 });
     }

@@ -2,8 +2,25 @@ use Rattle.std.proofs.Common.{[], ◌∷◌, refl}
 use Rattle.uxn_io_traits.specs.EndedLaws.{outside-of-out, outside-of-err}
 use Rattle.varvara_bus.specs.declared.ports.Action.TheVariants.{PutsDebugText, PutsOut, PutsErr}
 use Rattle.varvara_bus.specs.Effect.{debug_bytes, width_requested, height_requested, pixel_drawn, sprite_drawn, note_started}
-use Rattle.varvara_bus.proofs.Acts.{sink-ends, sink-ledger, devices_done, file-ends, file-ledger, tree-refuses}
+use Rattle.varvara_bus.proofs.Acts.{sink-ends, sink-ledger, core_done, devices_done, file-ends, file-ledger, tree-refuses}
 use Rattle.varvara_bus.proofs.bus.Bus.act.Goals as goal
+
+pub returns-in-Stores-clause-acted : goal.returns-in-Stores-clause-acted
+returns-in-Stores-clause-acted g c = rw c.in-Stores.is (core_done _ c.args.self.now c.args.core.now _ _ c.args.value refl (λ state stood. refl))
+
+pub returns-in-Expands-clause-acted : goal.returns-in-Expands-clause-acted
+returns-in-Expands-clause-acted g c =
+    rw c.in-Expands.is (core_done _ c.args.self.now c.args.core.now _ _ c.args.value refl
+    (λ state stood. rw (c.expansion.ensures, c.stored_short.ensures state stood) refl))
+
+pub returns-in-SetsWorkingPointer-clause-acted : goal.returns-in-SetsWorkingPointer-clause-acted
+returns-in-SetsWorkingPointer-clause-acted g c =
+    rw c.in-SetsWorkingPointer.is (core_done _ c.args.self.now c.args.core.now _ _ c.args.value refl (λ state stood. rw c.set_pointer.ensures refl))
+
+pub returns-in-SetsReturnPointer-clause-acted : goal.returns-in-SetsReturnPointer-clause-acted
+returns-in-SetsReturnPointer-clause-acted g c =
+    rw c.in-SetsReturnPointer.is (core_done _ c.args.self.now c.args.core.now _ _ c.args.value refl
+    (λ state stood. rw c.set_pointer-in-SetsReturnPointer.ensures refl))
 
 pub returns-in-PutsDebugText-clause-acted : goal.returns-in-PutsDebugText-clause-acted
 returns-in-PutsDebugText-clause-acted g c =

@@ -17,13 +17,13 @@ loop-voice-preserved g c =
     let inv = c.loop-voice.invariant in
     let voice = c.loop-voice.voice in
     let left : 4 - voice ≡ suc (4 - (voice + 1)) = omega (arith, c.loop-voice-test.true) in
-    let done = rw c.from.ensures at c.in_ok-run_ended.ensures in
+    let done = c.in_ok-run_ended.ensures in
     record {
       going = going-on _ _ _ _ _ (λ n. unless_over (vector_where n (slice_index_or c.args.ended.now voice false) voice))
           (give_each (λ v. vector_where c.args.self.now.budget (slice_index_or c.args.ended.now v false) v)
           (range_with_len (voice + 1) (4 - (voice + 1))))
           c.args.self.now.budget (of_vectors 4) _ (of_vectors 1) (of_vectors (4 - (voice + 1))) (omega arith) (omega arith) inv.same.budget
-          (rw left at inv.going) c.in_ok-run_ended.field-0 done;
+          (rw left at inv.going) c.in_ok-run_ended.field-0 (rw c.from.ensures at done);
       same = same-both _ _ _ _ inv.same done.same;
       room = room-after _ _ _ _ (of_vectors 1) (of_vectors (4 - (voice + 1))) _ _ (omega (arith, c.loop-voice-test.true)) (omega arith) inv.room done;
     }
