@@ -5,3 +5,6 @@ use Rattle.audio_mixer.proofs.Overs.{gives-pair, not-ended, over-next}
 
 pub returns-clause-some : goal.returns-clause-some
 returns-clause-some c = grind (arith, common_steps, gives-pair, not-ended, over-next)
+
+pub returns-in_default-clause-none : goal.returns-in_default-clause-none
+returns-in_default-clause-none c = grind (arith, common_steps)
