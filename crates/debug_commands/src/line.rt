@@ -1,15 +1,15 @@
 //! The first words of lines, and what a line means.
 
-ghost use Rattle.std.specs.Prelude.{◌≡◌, ◌<◌, ◌≤◌, ◌+◌, ◌*◌, ◌^◌, ◌&&◌, if◌then◌else◌, IfSome, IfOk, Some, None};
+ghost use Rattle.std.specs.Prelude.{◌≡◌, ◌<◌, ◌≤◌, ◌^◌, IfOk};
 ghost use Rattle.text_lines.specs.Lines.{words_of};
 ghost use Rattle.text_lines.specs.Rows.{rows_in};
-ghost use Rattle.tal_words.specs.Digits.{is_digit, digit_value, is_short_number, number_of_digits};
 ghost use Rattle.debug_commands.specs.declared.line.TheConstants.{ROWS};
 ghost use Rattle.debug_commands.specs.declared.line.Keyword.TheVariants.{Mem};
 ghost use Rattle.debug_commands.specs.Lines.{address_in, address_of_values, command_line_of, command_of, count_of_values};
 
 use crate::command::{CommandKind, DebugCommand};
 use tal_symbols::{Label, address_of};
+use tal_words::short_number;
 use text_lines::{Counts, Row, begins_with, first_word, keyword_of, number_within};
 use uxn_limits::limits;
 
@@ -121,7 +121,7 @@ fn address_of_values(labels: &[Label], values: &[u8]) -> Result<u16, CommandKind
 fn address_in(labels: &[Label], word: &[u8]) -> Result<u16, CommandKind>
     ensures { result ≡ address_in labels.now word.now }
 {
-    if let Some(address) = short_of(word) {
+    if let Some(address) = short_number(word) {
         return Ok(address);
     }
     if !begins_with(b'@', word) || word.len() == 1 {
@@ -130,35 +130,5 @@ fn address_in(labels: &[Label], word: &[u8]) -> Result<u16, CommandKind>
     match address_of(labels, &word[1..]) {
         Some(address) => Ok(address),
         None => Err(CommandKind::NoSuchLabel),
-    }
-}
-
-// The number that four lowercase digits spell.
-fn short_of(word: &[u8]) -> Option<u16>
-    ensures { result ≡ (if is_short_number word.now then Some (number_of_digits word.now) else None) }
-{
-    match word {
-        [a, b, c, d] => Some(byte_of(*a, *b)? * 256 + byte_of(*c, *d)?),
-        _ => None,
-    }
-}
-
-// The number that two lowercase digits spell.
-fn byte_of(high: u8, low: u8) -> Option<u16>
-    ensures byte { result ≡ (if is_digit high && is_digit low then Some (16 * digit_value high + digit_value low) else None) }
-    ensures small { IfSome result (λ byte. byte < 256) }
-{
-    Some(digit_of(high)? * 16 + digit_of(low)?)
-}
-
-// The value of a lowercase hexadecimal digit.
-fn digit_of(byte: u8) -> Option<u16>
-    ensures digit { result ≡ (if is_digit byte then Some (digit_value byte) else None) }
-    ensures small { IfSome result (λ digit. digit < 16) }
-{
-    match byte {
-        b'0'..=b'9' => Some(u16::from(byte - b'0')),
-        b'a'..=b'f' => Some(u16::from(byte - b'a') + 10),
-        _ => None,
     }
 }

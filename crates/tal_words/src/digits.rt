@@ -51,6 +51,17 @@ pub fn short_value(text: &[u8]) -> u16
     u16::from_be_bytes(value)
 }
 
+/// The value of four digits, if the text is that.
+pub fn short_number(text: &[u8]) -> Option<u16>
+    ensures { result ≡ (if is_short_number text.now then Some (number_of_digits text.now) else None) }
+{
+    if is_short_number(text) {
+        Some(short_value(text))
+    } else {
+        None
+    }
+}
+
 /// The value of one to four digits, if the text is that.
 pub fn address_value(text: &[u8]) -> Option<u16>
     ensures { result ≡ (if is_address_number text.now then Some (number_of_digits text.now) else None) }

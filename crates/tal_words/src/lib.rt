@@ -13,6 +13,7 @@ mod span;
 mod text;
 
 pub use cutting::words;
+pub use digits::short_number;
 pub use fault::{AsmStop, Fault, FaultKind, fault_word, first_fault_is_first};
 pub use form::{Form, Rune, form_of};
 pub use name::{Label, Name, name_fault};
