@@ -55,7 +55,7 @@ pub use Rattle.tal_rom.specs.declared.names.Names.{Names}
 pub use Rattle.tal_rom.specs.declared.patch.Patch.{Patch}
 pub use Rattle.tal_words.proofs.BlankFree.{all_joined}
 pub use Rattle.tal_words.proofs.FormLemmas.{length-encoded}
-pub use Rattle.tal_words.proofs.OrderLemmas.{each-end, each-more, no_word, get_or-each, last_of-more}
+pub use Rattle.tal_words.proofs.OrderLemmas.{each-end, each-more, no_word, get_or-each, last_of-more, by_last, both_nil, last_of_all}
 pub use Rattle.tal_words.proofs.PassLemmas.{fault_or-none, fault-here, fault-later}
 pub use Rattle.tal_words.specs.Braces.{opens, closes}
 pub use Rattle.tal_words.specs.Faults.{phase_fault, fault_at, Gives}

@@ -1,12 +1,12 @@
 -- What a patch represents, with one word more and where targets become known.
-use Rattle.tal_rom.proofs.Common.{◌≡◌, ℕ, zero, suc, ◌+◌, ◌-◌, ◌<◌, ◌⊎◌, inl, inr, Bool, true, false, not, ◌&&◌, List, [], ◌∷◌, ◌++◌, length, map}
+use Rattle.tal_rom.proofs.Common.{◌≡◌, ℕ, zero, suc, ◌+◌, ◌-◌, ◌<◌, inl, inr, Bool, true, false, not, ◌&&◌, List, [], ◌∷◌, ◌++◌, length, map}
 use Rattle.tal_rom.proofs.Common.{Option, Some, None, cond, if◌then◌else◌, refl, sym, ◌∙◌, ap, arith, append-nil, length-append, fold, is_some, Names}
 use Rattle.tal_rom.proofs.Common.{filter, flat_map, bytes_eq, map-append, list_any-append, count_by-le-length, length-filter, bytes_eq-Decides, Vec}
 use Rattle.tal_rom.proofs.Common.{AllByRecursion, Label, Form, Text, Refer, opens, encoded, address_named, full_name, name_after_rune, expanded_text}
 use Rattle.tal_rom.proofs.Common.{collected, each, each-more, last_of-more, PlacedWord, closed_at, openers_step, scope_after, Hole, Patch, known_in}
-use Rattle.tal_rom.proofs.Common.{wanted_in, byte_at, overlaid, filled_hole, is_reference, Added, waits, is_far, known_piece, added_given, rules}
+use Rattle.tal_rom.proofs.Common.{last_of_all, wanted_in, byte_at, overlaid, filled_hole, is_reference, Added, waits, is_far, known_piece, added_given, rules}
 use Rattle.tal_rom.proofs.Common.{form_target, scope_behind, PatchModel, PatchHolds, ComesNext, AreFilled, AreOpen, IsOpenAt, hole_at, holes_by}
-use Rattle.tal_rom.proofs.Common.{name_hole, holes_named, added_in, added_span, span_of_word, with_word, with_end, AreAscending}
+use Rattle.tal_rom.proofs.Common.{name_hole, holes_named, added_in, added_span, span_of_word, with_word, with_end, AreAscending, by_last, both_nil}
 use Rattle.std.specs.Option.{IsSome, option_to_list}
 use Rattle.std.proofs.Math.Seq.{take-append_seam}
 use Rattle.std.proofs.lemmas.List.Concat.{flat_map-append}
@@ -124,15 +124,8 @@ pub put_more : (labels : List Label) (form : Form) (text : List ℕ) (address : 
     → IsMore labels (next_word labels form text address full) full false old (record old { memory = memory })
 put_more labels form text address full old memory bare laid = search rules
 
--- texts that are the same
-pub same_text : (a b : List ℕ) → bytes_eq a b ≡ true → a ≡ b
-same_text a b e = (bytes_eq-Decides a b).0 e
-
-pub text_same : (a b : List ℕ) → a ≡ b → bytes_eq a b ≡ true
-text_same a b e = (bytes_eq-Decides a b).1 e
-
 bytes_eq-swap : (a b : List ℕ) → bytes_eq a b ≡ bytes_eq b a
-bytes_eq-swap a b = grind (arith, same_text a b, same_text b a)
+bytes_eq-swap a b = grind (arith, (bytes_eq-Decides a b).0, (bytes_eq-Decides b a).0)
 
 -- a name waits where it is the one that is looked up and is not known
 module _ (labels : List Label) (hole : Hole) (full name : List ℕ) where
@@ -140,10 +133,10 @@ module _ (labels : List Label) (hole : Hole) (full name : List ℕ) where
   waiting = cond (is_some (address_named labels name)) [] (holes_by (Refer hole.rune) hole.address (bytes_eq name full))
 
   pub none_waits : (target : ℕ) → address_named labels full ≡ Some target → waiting ≡ []
-  none_waits target e = grind (arith, same_text name full)
+  none_waits target e = grind (arith, (bytes_eq-Decides name full).0)
 
   pub one_waits : address_named labels full ≡ None → waiting ≡ cond (bytes_eq name full) (hole ∷ []) []
-  one_waits e = grind (arith, same_text name full)
+  one_waits e = grind (arith, (bytes_eq-Decides name full).0)
 
 length-filled : (target : ℕ) (holes : List Hole) (memory : List ℕ) → length (fold (filled_hole target) memory holes) ≡ length memory
 length-filled target [] memory = refl
@@ -175,7 +168,7 @@ holds_settled target model model' holes old new names openers settles settled sp
 pub known_more : (labels : List Label) (label : Label) (name : List ℕ) → address_named labels label.name ≡ None
     → cond (bytes_eq name label.name) (Some label.address) (address_named labels name) ≡ address_named (labels ++ label ∷ []) name
 known_more [] label name fresh = grind arith
-known_more (first ∷ labels) label name fresh = grind (arith, known_more labels label name, same_text name label.name)
+known_more (first ∷ labels) label name fresh = grind (arith, known_more labels label name, (bytes_eq-Decides name label.name).0)
 
 module _ (source : List ℕ) (labels : List Label) (label : Label) where
   abbrev more : List Label
@@ -205,7 +198,7 @@ module _ (source : List ℕ) (labels : List Label) (label : Label) where
         → (bytes_eq label.name full ≡ true → (address_named labels full ≡ None) × (address_named more full ≡ Some label.address))
         × (bytes_eq label.name full ≡ false → address_named more full ≡ address_named labels full)
     named_after full = (
-      λ named. rw (sym (same_text label.name full named), ← known_more labels label label.name fresh, text_same label.name label.name refl)
+      λ named. rw (sym ((bytes_eq-Decides label.name full).0 named), ← known_more labels label label.name fresh, (bytes_eq-Decides label.name label.name).1 refl)
           (fresh, refl),
       λ other. rw (← known_more labels label full fresh, bytes_eq-swap full label.name, other) refl,
     )
@@ -289,22 +282,6 @@ module _ (source : List ℕ) where
     open_hole [] at here = absurd here
     open_hole (placed ∷ words) zero here = (record { rune = here.rune; address = placed.address }, rw here.shape refl)
     open_hole (placed ∷ words) (suc at) here = open_hole words at here
-
--- a list by its last item
-by_last : (xs : List ℕ) → (xs ≡ []) ⊎ ((front : List ℕ) × (last : ℕ) × (xs ≡ front ++ last ∷ []))
-by_last [] = inl refl
-by_last (x ∷ xs) = elim (by_last xs) [
-  | inl none ↦ inr ([], x, rw none refl)
-  | inr some ↦ inr (x ∷ some.0, some.1, rw some.2 refl)
-]
-
-pub both_nil : {X : Type 0} (a b : List X) → a ++ b ≡ [] → (a ≡ []) × (b ≡ [])
-both_nil [] b e = (refl, e)
-both_nil (x ∷ a) b e = cc
-
-last_of_all : (P : ℕ → Type 0) (front : List ℕ) (last : ℕ) → AllByRecursion P (front ++ last ∷ []) → P last
-last_of_all P [] last all = all.0
-last_of_all P (x ∷ front) last all = last_of_all P front last all.1
 
 -- the last hole of the openers was popped and filled
 pub holds_end : (address : ℕ) (model : PatchModel) (left : Vec Hole) (last : Option Hole) (old new : Patch) → AreOpen model → PatchHolds model old

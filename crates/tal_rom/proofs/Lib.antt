@@ -9,4 +9,3 @@ pub mod NameLemmas
 pub mod AddedLemmas
 pub mod PatchedLemmas
 pub mod OnePass
-pub mod OrderLemmas

@@ -1,9 +1,8 @@
 -- Full names with what is known of them, after a change.
 use Rattle.tal_rom.proofs.Common.{◌≡◌, ℕ, false, List, [], ◌∷◌, ◌++◌, Option, Some, cond, refl, arith, append-nil, Vec, bytes_eq, vec_eq, Hole, Named}
-use Rattle.tal_rom.proofs.Common.{known_address, wanted_of}
+use Rattle.tal_rom.proofs.Common.{bytes_eq-Decides, known_address, wanted_of}
 use Rattle.std.specs.Map.{lookup, set_value}
 use Rattle.indexmap.specs.IndexMap.{insert_entry}
-use Rattle.tal_rom.proofs.Holding.{same_text}
 
 abbrev pub Entries : Type 0
 Entries = List (Vec ℕ × Named)
@@ -24,7 +23,7 @@ changed : (entries next : Entries) (key : Vec ℕ) (first value : Named) (name o
     → (bytes_eq name key.items ≡ false → found next other ≡ put (found entries) name value other)
     → found (cond (bytes_eq name key.items) ((key, value) ∷ entries) ((key, first) ∷ next)) other
     ≡ put (found ((key, first) ∷ entries)) name value other
-changed entries next key first value name other rest = grind (arith, same_text name key.items, same_text other name)
+changed entries next key first value name other rest = grind (arith, (bytes_eq-Decides name key.items).0, (bytes_eq-Decides other name).0)
 
 found_set : (entries : Entries) (name : List ℕ) (old value : Named) (other : List ℕ) → found entries name ≡ Some old
     → found (set_value (λ key. bytes_eq name key.items) entries value) other ≡ put (found entries) name value other
@@ -48,14 +47,14 @@ sets old new name before named e there = record { at = λ other. rw e (found_set
 -- what is then known of names: where the name is defined, and where one more reference or none waits for it
 module _ (old new : Entries) (name : List ℕ) (named : Named) (changes : Changes old new name named) (other : List ℕ) where
   pub known_same : named.address ≡ known_address (found old name) → known_address (found new other) ≡ known_address (found old other)
-  known_same e = rw (changes.at other) (grind (arith, same_text other name))
+  known_same e = rw (changes.at other) (grind (arith, (bytes_eq-Decides other name).0))
 
   pub wanted_same : named.holes.items ≡ wanted_of (found old name) → wanted_of (found new other) ≡ wanted_of (found old other)
-  wanted_same e = rw (changes.at other) (grind (arith, same_text other name))
+  wanted_same e = rw (changes.at other) (grind (arith, (bytes_eq-Decides other name).0))
 
   pub wanted_more : (more : List Hole) → named.holes.items ≡ wanted_of (found old name) ++ more
       → wanted_of (found new other) ≡ wanted_of (found old other) ++ cond (bytes_eq other name) more []
-  wanted_more more e = rw (changes.at other) (grind (arith, same_text other name, append-nil))
+  wanted_more more e = rw (changes.at other) (grind (arith, (bytes_eq-Decides other name).0, append-nil))
 
   pub known_defined : (address : ℕ) → named.address ≡ Some address
       → known_address (found new other) ≡ cond (bytes_eq other name) (Some address) (known_address (found old other))

@@ -118,7 +118,7 @@ pub fn check_references(alloc: Global, source: &[u8], placed: &Placed) -> Result
 }
 
 /// What is wrong with a reference stands in the order of its kinds, so that the first is the least.
-#[tactic(auto, using(crate::proofs::OrderLemmas::reference_in_order))]
+#[tactic(auto, using(crate::proofs::Checking::reference_in_order))]
 pub fn faults_of_references_are_in_order()
     ensures { (form : FormValue) (address : ℕ) (target : Option ℕ) → are_in_order (reference_kinds form address target) ≡ true }
 {}

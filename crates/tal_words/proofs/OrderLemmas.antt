@@ -1,6 +1,7 @@
 use Rattle.std.proofs.Common.{◌≡◌, ℕ, zero, suc, ◌+◌, ◌<◌, ◌≤◌, List, [], ◌∷◌, ◌++◌, length, take, drop, get_or, Option, refl, sym, ap, arith}
-use Rattle.std.proofs.Common.{append_assoc, append-nil}
+use Rattle.std.proofs.Common.{append_assoc, append-nil, ◌⊎◌, inl, inr}
 use Rattle.std.proofs.lemmas.List.{take_more, drop_more, drop_all}
+use Rattle.std.specs.List.{AllByRecursion}
 use Rattle.std.specs.Option.{option_or}
 use Rattle.tal_words.specs.declared.span.Expanded.{Expanded}
 use Rattle.tal_words.specs.Order.{collected, each, last_of}
@@ -62,6 +63,22 @@ module _ {X Y : Type 0} (find : X → Option Y) where
   pub last_of-more : (items : List X) (last : X) → last_of find (items ++ last ∷ []) ≡ option_or (find last) (last_of find items)
   last_of-more [] last = grind arith
   last_of-more (item ∷ items) last = grind (arith, last_of-more items last)
+
+-- a list by its last item
+pub by_last : (xs : List ℕ) → (xs ≡ []) ⊎ ((front : List ℕ) × (last : ℕ) × (xs ≡ front ++ last ∷ []))
+by_last [] = inl refl
+by_last (x ∷ xs) = elim (by_last xs) [
+  | inl none ↦ inr ([], x, rw none refl)
+  | inr some ↦ inr (x ∷ some.0, some.1, rw some.2 refl)
+]
+
+pub both_nil : {X : Type 0} (a b : List X) → a ++ b ≡ [] → (a ≡ []) × (b ≡ [])
+both_nil [] b e = (refl, e)
+both_nil (x ∷ a) b e = cc
+
+pub last_of_all : (P : ℕ → Type 0) (front : List ℕ) (last : ℕ) → AllByRecursion P (front ++ last ∷ []) → P last
+last_of_all P [] last all = all.0
+last_of_all P (x ∷ front) last all = last_of_all P front last all.1
 
 -- what a read past the end gives
 abbrev pub no_word : Expanded

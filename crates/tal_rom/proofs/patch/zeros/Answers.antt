@@ -1,6 +1,5 @@
 use Rattle.tal_rom.proofs.Common.{◌≡◌, ◌*◌, ◌+◌, refl, arith, replicate-append-replicate}
 use Rattle.tal_rom.proofs.Trimming.{zeros_read}
-use Rattle.std.proofs.lemmas.Grind.{common_steps}
 use Rattle.tal_rom.proofs.patch.zeros.Goals as goal
 
 pub loop-preserved : goal.loop-preserved
@@ -10,6 +9,3 @@ loop-preserved c =
 
 pub returns-clause-each : goal.returns-clause-each
 returns-clause-each c at = rw c.loop.invariant (zeros_read (256 * c.loop.counter) at)
-
-pub returns-clause-size : goal.returns-clause-size
-returns-clause-size c = grind (arith, common_steps)
