@@ -1,14 +1,11 @@
 -- The commands of a text, or its first faulty line (profile).
-use Rattle.std.specs.Prelude.{◌≡◌, ℕ, ◌+◌, nat_lt, List, length, Option, Result, Ok, Err}
-use Rattle.std.specs.Global.{Vec}
+use Rattle.std.specs.Prelude.{ℕ, ◌+◌, nat_lt, List, length, Option, Result}
 use Rattle.uxn_limits.specs.declared.limits.TheConstants.{TEXT_LIMIT, MOST_COMMANDS}
 use Rattle.text_lines.specs.Reading.{fault_if, text_by}
 use Rattle.tal_words.specs.declared.name.Label.{Label}
 use Rattle.debug_commands.specs.declared.command.DebugCommand.{DebugCommand}
 use Rattle.debug_commands.specs.declared.command.CommandKind.{CommandKind}
 use Rattle.debug_commands.specs.declared.command.CommandKind.TheVariants.{ManyCommands, LongCommands}
-use Rattle.debug_commands.specs.declared.command.CommandStop.{CommandStop}
-use Rattle.debug_commands.specs.declared.command.CommandStop.TheVariants.{Refused, NoMemory}
 use Rattle.debug_commands.specs.Lines.{command_line_of}
 
 -- what is wrong with a line behind these commands: with its own there are too many
@@ -18,9 +15,3 @@ command_fault before command = fault_if (nat_lt MOST_COMMANDS (length before + 1
 -- the commands of a text, or its first faulty line and the first fault there
 unfoldable pub commands_of_text : List Label → List ℕ → Result (List DebugCommand) (ℕ × CommandKind)
 commands_of_text labels text = text_by TEXT_LIMIT LongCommands command_fault (command_line_of labels) text
-
--- commands are read as it is defined, unless memory runs out
-abbrev pub ReadsCommands : Result (Vec DebugCommand) CommandStop → Result (List DebugCommand) (ℕ × CommandKind) → Type 0
-ReadsCommands (Ok commands) defined = defined ≡ Ok commands.items
-ReadsCommands (Err (Refused line kind)) defined = defined ≡ Err (line, kind)
-ReadsCommands (Err NoMemory) defined = Unit {0}

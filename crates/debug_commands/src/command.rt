@@ -2,9 +2,7 @@
 
 ghost use Rattle.std.specs.Prelude.{◌≡◌};
 
-use std::alloc::{AllocError, AllocFailed};
-use text_lines::LineFault;
-use thiserror::Error;
+use text_lines::{LineFault, TextStop};
 
 /// A command of the debugger.
 #[derive(Clone, Copy)]
@@ -86,32 +84,4 @@ impl From<LineFault> for CommandKind {
 }
 
 /// Why commands are not read.
-#[derive(Debug, Drop, Error)]
-pub enum CommandStop {
-    /// The first faulty line, counted from 1, has this fault.
-    #[error("the commands are refused at line {line}")]
-    Refused { line: u32, kind: CommandKind },
-    /// Memory ran out.
-    #[error("out of memory")]
-    NoMemory,
-}
-
-impl From<AllocError> for CommandStop {
-    ghost use Rattle.debug_commands.specs.declared.command.CommandStop.TheVariants.{NoMemory};
-
-    ghost from_gives = { λ _ stop. stop ≡ NoMemory };
-
-    fn from(_error: AllocError) -> CommandStop {
-        CommandStop::NoMemory
-    }
-}
-
-impl<T: Drop> From<AllocFailed<T>> for CommandStop {
-    ghost use Rattle.debug_commands.specs.declared.command.CommandStop.TheVariants.{NoMemory};
-
-    ghost from_gives = { λ _ stop. stop ≡ NoMemory };
-
-    fn from(_error: AllocFailed<T>) -> CommandStop {
-        CommandStop::NoMemory
-    }
-}
+pub type CommandStop = TextStop<CommandKind>;

@@ -2,7 +2,7 @@
 
 ghost use Rattle.std.specs.Prelude.{◌≡◌, ◌<◌, ◌≤◌, ◌^◌, IfOk};
 ghost use Rattle.text_lines.specs.Lines.{words_of};
-ghost use Rattle.text_lines.specs.Rows.{rows_in};
+ghost use Rattle.text_lines.specs.Named.{named_in};
 ghost use Rattle.debug_commands.specs.declared.line.TheConstants.{ROWS};
 ghost use Rattle.debug_commands.specs.declared.line.Keyword.TheVariants.{Mem};
 ghost use Rattle.debug_commands.specs.Lines.{address_in, address_of_values, command_line_of, command_of, count_of_values};
@@ -29,20 +29,20 @@ pub(crate) enum Keyword {
 
 /// The lines of commands.
 pub(crate) static ROWS: [Row<Keyword>; 9] = [
-    ("break", Counts::Exactly(1), Keyword::Break),
-    ("delete", Counts::Exactly(1), Keyword::Delete),
-    ("run", Counts::Exactly(0), Keyword::Run),
-    ("step", Counts::Exactly(1), Keyword::Step),
-    ("back", Counts::Exactly(1), Keyword::Back),
-    ("where", Counts::Exactly(0), Keyword::Where),
-    ("stacks", Counts::Exactly(0), Keyword::Stacks),
-    ("mem", Counts::Exactly(2), Keyword::Mem),
-    ("ports", Counts::Exactly(0), Keyword::Ports),
+    ("break", (Counts::Exactly(1), Keyword::Break)),
+    ("delete", (Counts::Exactly(1), Keyword::Delete)),
+    ("run", (Counts::Exactly(0), Keyword::Run)),
+    ("step", (Counts::Exactly(1), Keyword::Step)),
+    ("back", (Counts::Exactly(1), Keyword::Back)),
+    ("where", (Counts::Exactly(0), Keyword::Where)),
+    ("stacks", (Counts::Exactly(0), Keyword::Stacks)),
+    ("mem", (Counts::Exactly(2), Keyword::Mem)),
+    ("ports", (Counts::Exactly(0), Keyword::Ports)),
 ];
 
 // The lines of commands.
 pub(crate) fn rows() -> &'static [Row<Keyword>]
-    ensures { rows_in result.now ≡ ROWS }
+    ensures { named_in result.now ≡ ROWS }
 {
     ROWS.as_slice()
 }

@@ -1,6 +1,7 @@
 //! Reading commands.
 
-ghost use Rattle.debug_commands.specs.Reading.{commands_of_text, ReadsCommands};
+ghost use Rattle.text_lines.specs.Reading.{made, ReadsText};
+ghost use Rattle.debug_commands.specs.Reading.{commands_of_text};
 
 use crate::command::{CommandKind, CommandStop, DebugCommand};
 use crate::line::command_line_of;
@@ -17,7 +18,7 @@ pub fn read_commands(
     text: &[u8],
     labels: &[Label],
 ) -> Result<Vec<DebugCommand>, CommandStop>
-    ensures { ReadsCommands result (commands_of_text labels.now text.now) }
+    ensures { ReadsText (made (λ commands. commands.items) result) (commands_of_text labels.now text.now) }
 {
     if text.len() > limits::TEXT_LIMIT {
         return Err(CommandStop::Refused {

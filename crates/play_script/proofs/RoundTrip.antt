@@ -33,7 +33,8 @@ use Rattle.play_script.specs.Rows.{clock_of_values, keys_of, expect_of, buttons_
 use Rattle.play_script.specs.Scripts.{ScriptView, script_with, arguments_in, events_in, script_fault, script_from, script_of, version_at}
 use Rattle.play_script.specs.Scripts.{version_in}
 use Rattle.play_script.specs.Values.{texts_of_values, one_or}
-use Rattle.text_lines.specs.Rows.{keyword_of, row_named}
+use Rattle.text_lines.specs.Named.{value_named}
+use Rattle.text_lines.specs.Rows.{keyword_of}
 use Rattle.play_script.proofs.PrintedWords.{is_plain, weaker, number_back, integer_back, pairs_back, text_back, plain_text_word, one_byte, byte_back}
 use Rattle.play_script.proofs.PrintedWords.{button_back, mouse_button_back, plain_values}
 use Rattle.play_script.proofs.Stepping.{script_by, short_script}
@@ -106,7 +107,7 @@ abbrev ReadsScript : Version → List (List ℕ) → Meaning → Type 0
 ReadsScript number words m = script_line_of number words ≡ Ok (Some m)
 
 clock_line : (time : Clock) → IsTime time → ReadsScript First (clock_words time) (clock time)
-unfolding script_line_of keyword_of rows_of row_named script_meaning_of clock_of_values value_word
+unfolding script_line_of keyword_of rows_of value_named script_meaning_of clock_of_values value_word
 clock_line time is =
     rw (with_seconds time (number_within 0 LAST_SECOND (signed_decimal time.seconds)) (integer_within LAST_OFFSET LAST_OFFSET (signed_decimal time.offset)) (seconds_back time.seconds is.seconds_from is.seconds_to)
     (integer_back LAST_OFFSET LAST_OFFSET time.offset (omega arith) (omega arith) is.offset_from is.offset_to)) refl
@@ -121,7 +122,7 @@ texts_back (text ∷ texts) small =
     rw (text_back text (All-head (All (λ byte. byte < 256)) text texts small), texts_back texts (All-tail (All (λ byte. byte < 256)) text texts small)) refl
 
 args_line : (text : List ℕ) (texts : List (List ℕ)) → AreBytes (text ∷ texts) → ReadsScript First (codes "args" ∷ map text_word (text ∷ texts)) (arguments (text ∷ texts))
-unfolding script_line_of keyword_of rows_of row_named script_meaning_of
+unfolding script_line_of keyword_of rows_of value_named script_meaning_of
 args_line text texts small =
     rw (not_lt (length (map text_word (text ∷ texts))) 1 (omega arith), text_back text (All-head (All (λ byte. byte < 256)) text texts small), texts_back texts (All-tail (All (λ byte. byte < 256)) text texts small)) refl
 
@@ -158,7 +159,7 @@ old : (number : Version) (e : Event) → ReadsEvent First e → ReadsEvent numbe
 old number e is = in_version number (event_words e) (event e) is
 
 event_line : (number : Version) (e : Event) → IsEvent number e → ReadsEvent number e
-unfolding script_line_of keyword_of rows_of row_named script_meaning_of events_of_line device_of keys_of expect_of buttons_of mouse_buttons_of mouse_of scroll_of value_word one_or
+unfolding script_line_of keyword_of rows_of value_named script_meaning_of events_of_line device_of keys_of expect_of buttons_of mouse_buttons_of mouse_of scroll_of value_word one_or
 event_line number (Input byte) is = old number (Input byte) (rw (one_text byte is.within.0) refl)
 event_line number EndInput is = old number EndInput refl
 event_line number Frame is = old number Frame refl
@@ -211,7 +212,7 @@ start Second time [] = version ∷ clock time ∷ []
 start Second time (text ∷ texts) = version ∷ clock time ∷ arguments (text ∷ texts) ∷ []
 
 version_line : ReadsScript Second (codes "script" ∷ codes "2" ∷ []) version
-unfolding script_line_of keyword_of rows_of row_named script_meaning_of version_of
+unfolding script_line_of keyword_of rows_of value_named script_meaning_of version_of
 version_line = refl
 
 all_given : (number : Version) (time : Clock) (texts : List (List ℕ)) (more : List Event) → IsTime time → AreBytes texts → All (IsEvent number) more → length more ≤ MOST_EVENTS

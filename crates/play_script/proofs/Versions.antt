@@ -9,12 +9,14 @@ use Rattle.std.specs.Str.{bytes_eq}
 use Rattle.std.proofs.lemmas.List.Elements.{All-from_get_or}
 use Rattle.std.proofs.lemmas.List.Splits.{slice_split_at}
 use Rattle.uxn_limits.specs.declared.limits.TheConstants.{TEXT_LIMIT}
+use Rattle.text_lines.specs.declared.row.Counts.{Counts}
 use Rattle.text_lines.specs.declared.row.Counts.TheVariants.{Exactly, Between}
 use Rattle.text_lines.specs.declared.row.LineFault.{LineFault}
 use Rattle.text_lines.specs.Lines.{is_newline, words_of}
 use Rattle.text_lines.specs.Numbers.{begins_with}
 use Rattle.text_lines.specs.Reading.{Line, given, made, each_line}
-use Rattle.text_lines.specs.Rows.{Row as AnyRow, Rows, fault_named, row_named, counted, keyword_of, line_by}
+use Rattle.text_lines.specs.Named.{value_named}
+use Rattle.text_lines.specs.Rows.{Rows, fault_named, counted, keyword_of, line_by}
 use Rattle.play_script.specs.declared.keyword.Keyword.{Keyword}
 use Rattle.play_script.specs.declared.keyword.TheConstants.{FURTHER, ROWS}
 use Rattle.play_script.specs.declared.keyword.Keyword.TheVariants as word
@@ -40,7 +42,7 @@ found_holds P test (x ∷ xs) all = found_at P test x (find test xs) (test x) re
 
 -- what a row of version 1 reads
 abbrev Row : Type 0
-Row = AnyRow Keyword
+Row = record { now : List ℕ } × (Counts × Keyword)
 
 abbrev first_rows : Rows Keyword
 first_rows = drop FURTHER ROWS
@@ -51,31 +53,31 @@ meant number said = line_by (fault_named Unknown Missing Extra) (λ keyword valu
 abbrev said_by : Result Keyword LineFault → List (List ℕ) → Line (Keyword × List (List ℕ)) LineFault
 said_by answer values = made (λ keyword. Some (keyword, values)) answer
 
-abbrev reads : Version → Option Row → List (List ℕ) → Line Meaning ScriptKind
+abbrev reads : Version → Option (Counts × Keyword) → List (List ℕ) → Line Meaning ScriptKind
 reads number found values = meant number (said_by (counted found (length values)) values)
 
 record Carries (row : Row) : Type 0 where
-  same : (values : List (List ℕ)) (m : Option Meaning) → reads First (Some row) values ≡ Ok m
-      → reads Second (row_named ROWS row.0.now) values ≡ Ok m
+  same : (values : List (List ℕ)) (m : Option Meaning) → reads First (Some row.1) values ≡ Ok m
+      → reads Second (value_named ROWS row.0.now) values ≡ Ok m
 
-same_row : (row : Row) → row_named ROWS row.0.now ≡ Some row
-    → ((values : List (List ℕ)) → script_meaning_of row.2 First values ≡ script_meaning_of row.2 Second values) → Carries row
+same_row : (row : Row) → value_named ROWS row.0.now ≡ Some row.1
+    → ((values : List (List ℕ)) → script_meaning_of row.1.1 First values ≡ script_meaning_of row.1.1 Second values) → Carries row
 same_row row found equal = grind (arith, common_steps)
 
-wide_line : (name : List ℕ) (keyword : Keyword) → row_named ROWS name ≡ Some (record { now = name }, Between 1 2, keyword)
+wide_line : (name : List ℕ) (keyword : Keyword) → value_named ROWS name ≡ Some (Between 1 2, keyword)
     → ((b : List ℕ) → script_meaning_of keyword First (b ∷ []) ≡ script_meaning_of keyword Second (b ∷ []))
     → (values : List (List ℕ)) (m : Option Meaning)
-    → reads First (Some (record { now = name }, Exactly 1, keyword)) values ≡ Ok m → reads Second (row_named ROWS name) values ≡ Ok m
+    → reads First (Some (Exactly 1, keyword)) values ≡ Ok m → reads Second (value_named ROWS name) values ≡ Ok m
 wide_line name keyword found equal [] m is = absurd (grind (arith, is))
 wide_line name keyword found equal (b ∷ []) m is = rw found (ap (λ m. made Some (ok_or m BadValue)) (sym (equal b)) ∙ is)
 wide_line name keyword found equal (b ∷ c ∷ more) m is = grind (arith, common_steps)
 
-wide_row : (name : List ℕ) (keyword : Keyword) → row_named ROWS name ≡ Some (record { now = name }, Between 1 2, keyword)
-    → ((b : List ℕ) → script_meaning_of keyword First (b ∷ []) ≡ script_meaning_of keyword Second (b ∷ [])) → Carries (record { now = name }, Exactly 1, keyword)
+wide_row : (name : List ℕ) (keyword : Keyword) → value_named ROWS name ≡ Some (Between 1 2, keyword)
+    → ((b : List ℕ) → script_meaning_of keyword First (b ∷ []) ≡ script_meaning_of keyword Second (b ∷ [])) → Carries (record { now = name }, (Exactly 1, keyword))
 wide_row name keyword found equal = record { same = wide_line name keyword found equal }
 
 all_carry : AllByRecursion Carries first_rows
-unfolding row_named script_meaning_of events_of_line device_of keys_of buttons_of
+unfolding value_named script_meaning_of events_of_line device_of keys_of buttons_of
 all_carry = search (same_row, wide_row)
 
 -- version 1 has no line that tells a version
@@ -113,18 +115,18 @@ same_text : (xs ys : List ℕ) → bytes_eq xs ys ≡ true → xs ≡ ys
 same_text xs ys is = search (rules, tests)
 
 lift_row : (name : List ℕ) (values : List (List ℕ)) (m : Option Meaning) (found : Option Row) → IfSome found (λ row. Carries row × (bytes_eq row.0.now name ≡ true))
-    → Gives (reads First found values) m → Gives (reads Second (row_named ROWS name) values) m
+    → Gives (reads First (option_map (λ row. row.1) found) values) m → Gives (reads Second (value_named ROWS name) values) m
 lift_row name values m None holds is = absurd (grind (arith, is))
 lift_row name values m (Some row) holds is = rw (sym (same_text row.0.now name holds.1)) (holds.0.same values m is)
 
 lift_if : (test : Bool) (name : List ℕ) (values : List (List ℕ)) (m : Option Meaning)
-    → Gives (meant First (cond test (Ok None) (said_by (counted (row_named first_rows name) (length values)) values))) m
-    → (Gives (meant Second (cond test (Ok None) (said_by (counted (row_named ROWS name) (length values)) values))) m) × IfSome m IsNoVersion
-unfolding row_named
+    → Gives (meant First (cond test (Ok None) (said_by (counted (value_named first_rows name) (length values)) values))) m
+    → (Gives (meant Second (cond test (Ok None) (said_by (counted (value_named ROWS name) (length values)) values))) m) × IfSome m IsNoVersion
+unfolding value_named
 lift_if true name values m is = (is, let same : m ≡ None = grind (arith, is) in rw same tt)
 lift_if false name values m is = (
-  lift_row name values m (row_named first_rows name) (found_holds Carries (λ row. bytes_eq row.0.now name) first_rows all_carry) is,
-  none_read (counted (row_named first_rows name) (length values)) values m is,
+  lift_row name values m (find (λ row. bytes_eq row.0.now name) first_rows) (found_holds Carries (λ row. bytes_eq row.0.now name) first_rows all_carry) is,
+  none_read (counted (value_named first_rows name) (length values)) values m is,
 )
 
 pub lift : (words : List (List ℕ)) (m : Option Meaning) → Gives (script_line_of First words) m → Lifts Second words m
@@ -157,7 +159,7 @@ carried (line ∷ lines) = carry_line lines (words_of line) (script_line_of Firs
 
 -- the first line, which tells version 2
 first_line : script_line_of Second (words_of (codes "script 2")) ≡ Ok (Some version)
-unfolding script_line_of keyword_of rows_of row_named script_meaning_of version_of words_of
+unfolding script_line_of keyword_of rows_of value_named script_meaning_of version_of words_of
 first_line = refl
 
 tells : (lines : List (List ℕ)) → version_in (codes "script 2" ∷ lines) ≡ Second

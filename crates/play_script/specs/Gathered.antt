@@ -11,8 +11,8 @@ use Rattle.play_script.specs.declared.script.Version.{Version}
 use Rattle.play_script.specs.declared.script.ScriptKind.{ScriptKind}
 use Rattle.play_script.specs.declared.script.LineStop.{LineStop}
 use Rattle.play_script.specs.declared.script.LineStop.TheVariants.{Faulty, NoMemory}
-use Rattle.play_script.specs.declared.script.ScriptStop.{ScriptStop}
-use Rattle.play_script.specs.declared.script.ScriptStop.TheVariants.{Refused, NoMemory as OutOfMemory}
+use Rattle.text_lines.specs.declared.stop.TextStop.{TextStop}
+use Rattle.text_lines.specs.declared.stop.TextStop.TheVariants.{Refused, NoMemory as OutOfMemory}
 use Rattle.play_script.specs.declared.line.Meaning.{Meaning as Read}
 use Rattle.play_script.specs.declared.line.Meaning.TheVariants.{VersionLine, ClockLine, Arguments, Inputs, Times}
 use Rattle.play_script.specs.Held.{bytes_in}
@@ -54,7 +54,7 @@ pub record IsGatheredScript (all : GatheredView) : Type 0 where
   pub given : All (IsEvent all.version) all.events
 
 -- what stops a script whose line stops
-abbrev pub at_line : ℕ → LineStop → ScriptStop
+abbrev pub at_line : ℕ → LineStop → TextStop ScriptKind
 at_line line (Faulty kind) = Refused line kind
 at_line line NoMemory = OutOfMemory
 

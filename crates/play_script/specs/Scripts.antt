@@ -1,7 +1,7 @@
 -- What a script is: its version, and the clock, the arguments and the events of its lines, or its first faulty line (profile).
-use Rattle.std.specs.Prelude.{◌≡◌, ℕ, ◌+◌, Bool, ◌||◌, nat_lt, if◌then◌else◌}
+use Rattle.std.specs.Prelude.{ℕ, ◌+◌, Bool, ◌||◌, nat_lt, if◌then◌else◌}
 use Rattle.std.specs.Prelude.{pos, List, [], ◌∷◌, codes, length, slice_get}
-use Rattle.std.specs.Prelude.{Option, Some, None, is_some, Result, Ok, Err}
+use Rattle.std.specs.Prelude.{Option, Some, None, is_some, Result}
 use Rattle.std.specs.List.{flat_map}
 use Rattle.std.specs.Option.{unwrap_or}
 use Rattle.std.specs.Str.{bytes_eq}
@@ -13,8 +13,6 @@ use Rattle.play_script.specs.declared.script.Clock.{Clock}
 use Rattle.play_script.specs.declared.script.Event.{Event}
 use Rattle.play_script.specs.declared.script.ScriptKind.{ScriptKind}
 use Rattle.play_script.specs.declared.script.ScriptKind.TheVariants.{Late, ManyEvents, LongScript}
-use Rattle.play_script.specs.declared.script.ScriptStop.{ScriptStop}
-use Rattle.play_script.specs.declared.script.ScriptStop.TheVariants.{Refused, NoMemory}
 use Rattle.play_script.specs.declared.script.Version.{Version}
 use Rattle.play_script.specs.declared.script.Version.TheVariants.{First, Second}
 use Rattle.play_script.specs.Rows.{Meaning, version, clock, arguments, events, script_line_of}
@@ -104,9 +102,3 @@ script_in number text = made (script_from number) (text_by TEXT_LIMIT LongScript
 
 unfoldable pub script_of : List ℕ → Result ScriptView (ℕ × ScriptKind)
 script_of text = script_in (version_in (lines_of text)) text
-
--- a script is read as it is defined, unless memory runs out
-abbrev pub ReadsScript : Result ScriptView ScriptStop → Result ScriptView (ℕ × ScriptKind) → Type 0
-ReadsScript (Ok script) defined = defined ≡ Ok script
-ReadsScript (Err (Refused line kind)) defined = defined ≡ Err (line, kind)
-ReadsScript (Err NoMemory) defined = Unit {0}

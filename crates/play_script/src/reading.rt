@@ -3,9 +3,10 @@
 ghost use Rattle.std.specs.Prelude.{◌≡◌, ◌+◌, ◌≤◌, ◌++◌, length, map, IfOk, OnOk};
 ghost use Rattle.uxn_limits.specs.declared.limits.TheConstants.{TEXT_LIMIT};
 ghost use Rattle.text_lines.specs.Lines.{words_of, lines_of};
+ghost use Rattle.text_lines.specs.Reading.{ReadsText};
 ghost use Rattle.play_script.specs.Held.{bytes_in};
 ghost use Rattle.play_script.specs.Rows.{inputs_of};
-ghost use Rattle.play_script.specs.Scripts.{script_of, version_at, version_in, ReadsScript};
+ghost use Rattle.play_script.specs.Scripts.{script_of, version_at, version_in};
 ghost use Rattle.play_script.specs.Gathered.{at_line};
 ghost use Rattle.play_script.specs.declared.script.Event.TheVariants.{Input};
 
@@ -21,7 +22,7 @@ use uxn_limits::limits;
 /// and the first fault there.
 #[tactic(auto, unfolding(crate::specs::Scripts::script_of))]
 pub fn read_script(alloc: Global, text: &[u8]) -> Result<Script, ScriptStop>
-    ensures { ReadsScript result (script_of text.now) }
+    ensures { ReadsText result (script_of text.now) }
 {
     if text.len() > limits::TEXT_LIMIT {
         return Err(ScriptStop::Refused {

@@ -5,7 +5,7 @@ ghost use Rattle.std.specs.Prelude.{◌≡◌, List};
 use input_ports::Input;
 use std::alloc::AllocError;
 use std::marker::Model;
-use thiserror::Error;
+use text_lines::TextStop;
 use uxn_io_traits::Bytes;
 
 /// The moment at which a script begins.
@@ -178,15 +178,7 @@ impl ScriptKind {
 }
 
 /// Why a script is not read.
-#[derive(Debug, Drop, Error)]
-pub enum ScriptStop {
-    /// The first faulty line, counted from 1, has this fault.
-    #[error("the script is refused at line {line}")]
-    Refused { line: u32, kind: ScriptKind },
-    /// Memory ran out.
-    #[error("out of memory")]
-    NoMemory,
-}
+pub type ScriptStop = TextStop<ScriptKind>;
 
 // What stops a line.
 #[derive(Drop)]

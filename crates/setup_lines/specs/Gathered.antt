@@ -4,8 +4,8 @@ use Rattle.uxn_limits.specs.declared.limits.TheConstants.{FEWEST_MACHINES}
 use Rattle.text_lines.specs.Reading.{Line}
 use Rattle.setup_lines.specs.declared.setup.SetupKind.{SetupKind}
 use Rattle.setup_lines.specs.declared.setup.SetupKind.TheVariants.{FewMachines}
-use Rattle.setup_lines.specs.declared.setup.SetupStop.{SetupStop}
-use Rattle.setup_lines.specs.declared.setup.SetupStop.TheVariants.{Refused}
+use Rattle.text_lines.specs.declared.stop.TextStop.{TextStop}
+use Rattle.text_lines.specs.declared.stop.TextStop.TheVariants.{Refused}
 use Rattle.setup_lines.specs.declared.setup_line.SetupLine.{SetupLine}
 use Rattle.setup_lines.specs.declared.setup_line.SetupLine.TheVariants.{Machine, Script, Budget, Turn}
 use Rattle.setup_lines.specs.Setups.{SetupView, setup_gathering_fault}
@@ -28,5 +28,5 @@ grown before (Budget number) = record before { budget = Some number }
 grown before (Turn turns) = record before { schedule = before.schedule ++ turns ∷ [] }
 
 -- the setup of all lines
-abbrev pub finished_setup : SetupView → Result SetupView SetupStop
+abbrev pub finished_setup : SetupView → Result SetupView (TextStop SetupKind)
 finished_setup all = if nat_lt (length all.sources) FEWEST_MACHINES then Err (Refused 1 FewMachines) else Ok all

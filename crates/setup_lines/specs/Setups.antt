@@ -1,13 +1,11 @@
 -- What a setup is: what its lines give, or its first faulty line (profile).
-use Rattle.std.specs.Prelude.{◌≡◌, ℕ, ◌+◌, is_some, nat_lt, if◌then◌else◌, List, [], ◌∷◌, length, slice_get}
+use Rattle.std.specs.Prelude.{ℕ, ◌+◌, is_some, nat_lt, if◌then◌else◌, List, [], ◌∷◌, length, slice_get}
 use Rattle.std.specs.Prelude.{Option, Some, Result, Ok, Err}
 use Rattle.std.specs.List.{flat_map, sum_by}
 use Rattle.uxn_limits.specs.declared.limits.TheConstants.{TEXT_LIMIT, FEWEST_MACHINES, MOST_MACHINES, MOST_TURNS}
 use Rattle.text_lines.specs.Reading.{fault_if, text_by}
 use Rattle.setup_lines.specs.declared.setup.SetupKind.{SetupKind}
 use Rattle.setup_lines.specs.declared.setup.SetupKind.TheVariants.{Twice, ManyMachines, NoMachine, ManyTurns, FewMachines, LongSetup}
-use Rattle.setup_lines.specs.declared.setup.SetupStop.{SetupStop}
-use Rattle.setup_lines.specs.declared.setup.SetupStop.TheVariants.{Refused, NoMemory}
 use Rattle.setup_lines.specs.declared.setup.Turns.{Turns}
 use Rattle.setup_lines.specs.declared.setup_line.SetupLine.{SetupLine}
 use Rattle.setup_lines.specs.declared.setup_line.SetupLine.TheVariants.{Machine, Script, Budget, Turn}
@@ -75,9 +73,3 @@ setup_by (Err fault) = Err fault
 -- the setup of a text, or its first faulty line and the first fault there
 unfoldable pub setup_of : List ℕ → Result SetupView (ℕ × SetupKind)
 setup_of text = setup_by (text_by TEXT_LIMIT LongSetup setup_fault setup_line_of text)
-
--- a setup is read as it is defined, unless memory runs out
-abbrev pub ReadsSetup : Result SetupView SetupStop → Result SetupView (ℕ × SetupKind) → Type 0
-ReadsSetup (Ok setup) defined = defined ≡ Ok setup
-ReadsSetup (Err (Refused line kind)) defined = defined ≡ Err (line, kind)
-ReadsSetup (Err NoMemory) defined = Unit {0}

@@ -1,7 +1,7 @@
 //! The first words of lines, and how many values stand behind them.
 
 ghost use Rattle.std.specs.Prelude.{◌≡◌};
-ghost use Rattle.text_lines.specs.Rows.{rows_in};
+ghost use Rattle.text_lines.specs.Named.{named_in};
 ghost use Rattle.setup_lines.specs.declared.keyword.TheConstants.{ROWS};
 
 use text_lines::{Counts, Row};
@@ -17,15 +17,15 @@ pub(crate) enum Keyword {
 
 /// The lines of a setup.
 pub(crate) static ROWS: [Row<Keyword>; 4] = [
-    ("machine", Counts::Exactly(1), Keyword::Machine),
-    ("script", Counts::Exactly(1), Keyword::Script),
-    ("budget", Counts::Exactly(1), Keyword::Budget),
-    ("turn", Counts::Exactly(2), Keyword::Turn),
+    ("machine", (Counts::Exactly(1), Keyword::Machine)),
+    ("script", (Counts::Exactly(1), Keyword::Script)),
+    ("budget", (Counts::Exactly(1), Keyword::Budget)),
+    ("turn", (Counts::Exactly(2), Keyword::Turn)),
 ];
 
 // The lines of a setup.
 pub(crate) fn rows() -> &'static [Row<Keyword>]
-    ensures { rows_in result.now ≡ ROWS }
+    ensures { named_in result.now ≡ ROWS }
 {
     ROWS.as_slice()
 }

@@ -1,6 +1,7 @@
 //! Reading a setup.
 
-ghost use Rattle.setup_lines.specs.Setups.{setup_of, ReadsSetup};
+ghost use Rattle.text_lines.specs.Reading.{ReadsText};
+ghost use Rattle.setup_lines.specs.Setups.{setup_of};
 
 use crate::setup::{Setup, SetupKind, SetupStop, Turns};
 use crate::setup_line::{SetupLine, setup_line_of};
@@ -14,7 +15,7 @@ use uxn_limits::limits;
 /// at line 1 where no line is faulty and fewer than two machines are given.
 #[tactic(auto, unfolding(crate::specs::Setups::setup_of))]
 pub fn read_setup(alloc: Global, text: &[u8]) -> Result<Setup, SetupStop>
-    ensures { ReadsSetup result (setup_of text.now) }
+    ensures { ReadsText result (setup_of text.now) }
 {
     if text.len() > limits::TEXT_LIMIT {
         return Err(SetupStop::Refused {

@@ -2,10 +2,8 @@
 
 ghost use Rattle.std.specs.Prelude.{◌≡◌};
 
-use std::alloc::AllocError;
 use std::marker::Model;
-use text_lines::LineFault;
-use thiserror::Error;
+use text_lines::{LineFault, TextStop};
 use uxn_io_traits::Path;
 use uxn_limits::limits;
 
@@ -165,22 +163,4 @@ impl From<LineFault> for SetupKind {
 }
 
 /// Why a setup is not read.
-#[derive(Debug, Drop, Error)]
-pub enum SetupStop {
-    /// The first faulty line, counted from 1, has this fault.
-    #[error("the setup is refused at line {line}")]
-    Refused { line: u32, kind: SetupKind },
-    /// Memory ran out.
-    #[error("out of memory")]
-    NoMemory,
-}
-
-impl From<AllocError> for SetupStop {
-    ghost use Rattle.setup_lines.specs.declared.setup.SetupStop.TheVariants.{NoMemory};
-
-    ghost from_gives = { λ _ stop. stop ≡ NoMemory };
-
-    fn from(_error: AllocError) -> SetupStop {
-        SetupStop::NoMemory
-    }
-}
+pub type SetupStop = TextStop<SetupKind>;

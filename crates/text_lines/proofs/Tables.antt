@@ -1,12 +1,10 @@
 -- What the code finds in a table is what the table has.
-use Rattle.std.proofs.Common.{◌≡◌, ℕ, Bool, true, false, cond, List, [], ◌∷◌, map, Option, Some, None, refl, sym, ap, ◌∙◌}
+use Rattle.std.proofs.Common.{◌≡◌, ℕ, Bool, true, false, cond, List, [], ◌∷◌, map, Option, Some, None, refl, ap, ◌∙◌}
 use Rattle.std.specs.Borrow.{Bor}
 use Rattle.std.specs.List.{find}
 use Rattle.std.specs.Option.{option_map}
 use Rattle.std.specs.Str.{bytes_eq}
-use Rattle.text_lines.specs.declared.row.Counts.{Counts}
 use Rattle.text_lines.specs.Named.{named_row_in, named_in, value_named}
-use Rattle.text_lines.specs.Rows.{row_in, rows_in, row_named}
 
 map_if : {A B : Type 0} (f : A → B) (b : Bool) (x : A) (rest : Option A) → option_map f (cond b (Some x) rest) ≡ cond b (Some (f x)) (option_map f rest)
 map_if f true x rest = refl
@@ -17,12 +15,6 @@ find_map : {A B : Type 0} (f : A → B) (of : A → Bool) (p : B → Bool) → (
     → option_map f (find of rows) ≡ find p (map f rows)
 find_map f of p same [] = refl
 find_map f of p same (row ∷ rows) = rw (map_if f (of row) row (find of rows), same row, find_map f of p same rows) refl
-
-pub table_row : {K : Type 0} (name : List ℕ) (rows : List (Bor (List ℕ) × Counts × K)) (found : Option (Bor (List ℕ) × Counts × K))
-    → found ≡ find (λ row. bytes_eq row.0.now name) rows → row_named (rows_in rows) name ≡ option_map row_in found
-unfolding row_named
-table_row name rows found is =
-    sym (find_map row_in (λ row. bytes_eq row.0.now name) (λ row. bytes_eq row.0.now name) (λ row. refl) rows) ∙ ap (option_map row_in) (sym is)
 
 the_value : {V : Type 0} (found : Option (Bor (List ℕ) × V)) → option_map (λ row. row.1) found ≡ option_map (λ row. row.1) (option_map named_row_in found)
 the_value None = refl

@@ -3,6 +3,8 @@
 use Rattle.std.specs.Prelude.{◌≡◌, ℕ, ◌+◌, Bool, nat_lt, if◌then◌else◌, length}
 use Rattle.std.specs.Prelude.{List, [], ◌∷◌, ◌++◌, map, Option, Some, None}
 use Rattle.std.specs.Prelude.{Result, Ok, Err}
+use Rattle.text_lines.specs.declared.stop.TextStop.{TextStop}
+use Rattle.text_lines.specs.declared.stop.TextStop.TheVariants.{Refused, NoMemory}
 use Rattle.text_lines.specs.Lines.{lines_of, words_of}
 
 -- a line by itself
@@ -39,6 +41,12 @@ abbrev pub text_by : {A K : Type 0} → ℕ → K → (List A → A → Option K
     → (List (List ℕ) → Line A K) → List ℕ → Result (List A) (ℕ × K)
 text_by limit long fault line_of text =
     if nat_lt limit (length text) then Err (1, long) else given fault 1 [] (each_line line_of (lines_of text))
+
+-- a text is read as it is defined, unless memory runs out
+abbrev pub ReadsText : {A K : Type 0} → Result A (TextStop K) → Result A (ℕ × K) → Type 0
+ReadsText (Ok value) defined = defined ≡ Ok value
+ReadsText (Err (Refused line kind)) defined = defined ≡ Err (line, kind)
+ReadsText (Err NoMemory) defined = Unit {0}
 
 -- what is wrong with a line behind what the lines before it gave
 abbrev pub fault_of : {A K : Type 0} → (List A → A → Option K) → List A → Line A K → Option K

@@ -1,9 +1,7 @@
 -- Tables of the first words of lines (profile): a word, how many values stand behind it, and what it represents.
-use Rattle.std.specs.Prelude.{ℕ, false, nat_lt, if◌then◌else◌, List, [], ◌∷◌, length, map, Option, Some, None, Result, Ok, Err}
-use Rattle.std.specs.Borrow.{Bor}
-use Rattle.std.specs.List.{find}
+use Rattle.std.specs.Prelude.{ℕ, false, nat_lt, if◌then◌else◌, List, [], ◌∷◌, length, Option, Some, None, Result, Ok, Err}
 use Rattle.std.specs.Option.{option_map_or}
-use Rattle.std.specs.Str.{bytes_eq}
+use Rattle.text_lines.specs.Named.{Named, value_named}
 use Rattle.text_lines.specs.Numbers.{begins_with}
 use Rattle.text_lines.specs.Reading.{Line, made}
 use Rattle.text_lines.specs.declared.row.Counts.{Counts}
@@ -11,23 +9,9 @@ use Rattle.text_lines.specs.declared.row.Counts.TheVariants.{Exactly, Between, A
 use Rattle.text_lines.specs.declared.row.LineFault.{LineFault}
 use Rattle.text_lines.specs.declared.row.LineFault.TheVariants.{Unknown, Missing, Extra}
 
--- a row of a table, and the rows of one
-abbrev pub Row : Type 0 → Type 0
-Row K = record { now : List ℕ } × Counts × K
-
+-- the rows of a table: for each first word how many values stand behind it, and what it represents
 abbrev pub Rows : Type 0 → Type 0
-Rows K = List (Row K)
-
--- the rows that the code looks up
-abbrev pub row_in : {K : Type 0} → Bor (List ℕ) × Counts × K → Row K
-row_in row = (record { now = row.0.now }, row.1, row.2)
-
-abbrev pub rows_in : {K : Type 0} → List (Bor (List ℕ) × Counts × K) → Rows K
-rows_in table = map row_in table
-
--- the row of a first word
-unfoldable pub row_named : {K : Type 0} → Rows K → List ℕ → Option (Row K)
-row_named rows name = find (λ row. bytes_eq row.0.now name) rows
+Rows K = Named (Counts × K)
 
 -- the fewest values of a line, and the most, if there is a limit
 abbrev pub count_limits : Counts → ℕ × Option ℕ
@@ -36,13 +20,13 @@ count_limits (Between least most) = (least, Some most)
 count_limits (AtLeast least) = (least, None)
 
 -- the keyword of a row that takes as many values
-abbrev pub with_count : {K : Type 0} → Row K → ℕ → Result K LineFault
+abbrev pub with_count : {K : Type 0} → Counts × K → ℕ → Result K LineFault
 with_count row count =
-    if nat_lt count (count_limits row.1).0 then Err Missing
-    else if option_map_or (λ most. nat_lt most count) (count_limits row.1).1 false then Err Extra
-    else Ok row.2
+    if nat_lt count (count_limits row.0).0 then Err Missing
+    else if option_map_or (λ most. nat_lt most count) (count_limits row.0).1 false then Err Extra
+    else Ok row.1
 
-abbrev pub counted : {K : Type 0} → Option (Row K) → ℕ → Result K LineFault
+abbrev pub counted : {K : Type 0} → Option (Counts × K) → ℕ → Result K LineFault
 counted None count = Err Unknown
 counted (Some row) count = with_count row count
 
@@ -51,7 +35,7 @@ unfoldable pub keyword_of : {K : Type 0} → Rows K → List (List ℕ) → Line
 keyword_of rows [] = Ok None
 keyword_of rows (name ∷ values) =
     if begins_with 35 name then Ok None
-    else made (λ keyword. Some (keyword, values)) (counted (row_named rows name) (length values))
+    else made (λ keyword. Some (keyword, values)) (counted (value_named rows name) (length values))
 
 -- what a text calls the faults of a line's words: an unknown first word, too few values, and too many
 abbrev pub fault_named : {F : Type 0} → F → F → F → LineFault → F

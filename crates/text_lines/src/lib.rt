@@ -6,6 +6,7 @@ mod named;
 mod numbers;
 mod reading;
 mod row;
+mod stop;
 mod words;
 
 pub use lines::Lines;
@@ -13,4 +14,5 @@ pub use named::{Named, value_named};
 pub use numbers::{begins_with, byte_of, integer_within, number_within};
 pub use reading::first_faulty_line;
 pub use row::{Counts, LineFault, Row, keyword_of};
+pub use stop::TextStop;
 pub use words::first_word;

@@ -1,11 +1,12 @@
 //! Tables of the first words of lines.
 
-ghost use Rattle.std.specs.Prelude.{◌≡◌, ◌≤◌, length, find, option_copied, option_map, IfOk, IfSome};
-ghost use Rattle.std.specs.Str.{bytes_eq};
+ghost use Rattle.std.specs.Prelude.{◌≡◌, ◌≤◌, length, option_map, IfOk, IfSome};
 ghost use Rattle.text_lines.specs.Lines.{words_of};
 ghost use Rattle.text_lines.specs.Reading.{made};
-ghost use Rattle.text_lines.specs.Rows.{row_in, rows_in, row_named, counted, with_count, keyword_of};
+ghost use Rattle.text_lines.specs.Named.{named_in, value_named};
+ghost use Rattle.text_lines.specs.Rows.{counted, with_count, keyword_of};
 
+use crate::named::{Named, value_named};
 use crate::numbers::begins_with;
 use crate::words::first_word;
 
@@ -21,7 +22,7 @@ pub enum Counts {
 }
 
 /// A row of a table of lines: a first word, how many values it takes, and what it represents.
-pub type Row<K> = (&'static str, Counts, K);
+pub type Row<K> = Named<(Counts, K)>;
 
 /// What can be wrong with the words of a line.
 #[derive(Clone, Copy)]
@@ -41,7 +42,7 @@ pub fn keyword_of<'a, K: Copy>(
     line: &'a [u8],
 ) -> Result<Option<(K, &'a [u8])>, LineFault>
     ensures keyword { made (option_map (λ said. (said.0, words_of said.1.now))) result
-        ≡ keyword_of (rows_in rows.now) (words_of line.now) }
+        ≡ keyword_of (named_in rows.now) (words_of line.now) }
     ensures shorter { IfOk result (λ given. IfSome given (λ said. length said.1.now ≤ length line.now)) }
 {
     let Some((name, values)) = first_word(line) else {
@@ -56,38 +57,30 @@ pub fn keyword_of<'a, K: Copy>(
 
 // The keyword of a first word whose row takes as many values as there are words.
 fn keyword_line<K: Copy>(rows: &[Row<K>], name: &[u8], values: &[u8]) -> Result<K, LineFault>
-    ensures { result ≡ counted (row_named (rows_in rows.now) name.now) (length (words_of values.now)) }
+    ensures { result ≡ counted (value_named (named_in rows.now) name.now) (length (words_of values.now)) }
 {
-    match row_named(rows, name) {
-        Some(row) => count_values(row, values),
+    match value_named(rows, name) {
+        Some(row) => with_count(row, count_words(values)),
         None => Err(LineFault::Unknown),
     }
 }
 
-// The row of a first word.
-fn row_named<'a, K: Copy>(rows: &'a [Row<K>], name: &[u8]) -> Option<&'a Row<K>>
-    ensures { option_copied result ≡ find (λ row. bytes_eq row.0.now name.now) rows.now }
+// The keyword of a row, where it takes so many values.
+fn with_count<K: Copy>(row: (Counts, K), count: usize) -> Result<K, LineFault>
+    ensures { result ≡ with_count row count }
 {
-    rows.iter().find(|row| row.0.as_bytes() == name)
-}
-
-// The keyword of a row, where so many values are taken.
-fn count_values<K: Copy>(row: &Row<K>, values: &[u8]) -> Result<K, LineFault>
-    ensures { result ≡ with_count (row_in row.now) (length (words_of values.now)) }
-{
-    let (least, most) = match row.1 {
+    let (least, most) = match row.0 {
         Counts::Exactly(count) => (count, count),
         Counts::Between(least, most) => (least, most),
         Counts::AtLeast(least) => (least, usize::MAX),
     };
-    let count = count_words(values);
     if count < least {
         return Err(LineFault::Missing);
     }
     if most < count {
         return Err(LineFault::Extra);
     }
-    Ok(row.2)
+    Ok(row.1)
 }
 
 /// How many words a line has.
