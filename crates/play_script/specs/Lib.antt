@@ -1,8 +1,1 @@
-pub mod Held
-pub mod Values
-pub mod Rows
-pub mod Scripts
 pub mod PlainText
-pub mod Gathered
-pub mod Limits
-pub mod Kinds

@@ -6,16 +6,15 @@ use Rattle.std.specs.Option.{unwrap_or, option_map}
 use Rattle.std.specs.Fmt.{signed_decimal}
 use Rattle.hex.specs.Hex.{encode_lower}
 use Rattle.text_lines.specs.Named.{Named}
-use Rattle.input_ports.specs.declared.Input.TheVariants.{Key, Down, Up, Mouse, Press, Release, Scroll, DownOf, UpOf}
-use Rattle.play_script.specs.declared.script.Clock.{Clock}
-use Rattle.play_script.specs.declared.script.Event.{Event}
-use Rattle.play_script.specs.declared.script.Event.TheVariants.{Input, EndInput, Frame, Device, Shot, Expect}
-use Rattle.play_script.specs.declared.script.Version.{Version}
-use Rattle.play_script.specs.declared.script.Version.TheVariants.{First, Second}
-use Rattle.play_script.specs.declared.values.Value.{Value}
-use Rattle.play_script.specs.declared.values.Value.TheVariants.{Byte, Button, MouseButton, Player, Pixel, Turn, Seconds, Minutes}
-use Rattle.play_script.specs.declared.values.TheConstants.{BUTTONS, MOUSE_BUTTONS}
-use Rattle.play_script.specs.Scripts.{ScriptView}
+use Rattle.script_lines.specs.declared.script.Clock.{Clock}
+use Rattle.script_lines.specs.declared.script.Event.{Event}
+use Rattle.script_lines.specs.declared.script.Version.{Version}
+use Rattle.script_lines.specs.declared.script.Version.TheVariants.{First, Second}
+use Rattle.script_lines.specs.declared.values.Value.{Value}
+use Rattle.script_lines.specs.declared.values.Value.TheVariants.{Byte, Button, MouseButton, Player, Pixel, Turn, Seconds, Minutes}
+use Rattle.script_lines.specs.declared.values.TheConstants.{BUTTONS, MOUSE_BUTTONS}
+use Rattle.script_lines.specs.PlainEvents.{plain_event}
+use Rattle.script_lines.specs.Scripts.{ScriptView}
 
 -- bytes as a text word: pairs of lowercase hexadecimal digits, or `"` alone where there are none
 abbrev pub text_word : List ℕ → List ℕ
@@ -36,23 +35,7 @@ value_word (Turn steps) = signed_decimal steps
 value_word (Seconds seconds) = signed_decimal seconds
 value_word (Minutes minutes) = signed_decimal minutes
 
--- of an event's line the first version that has it, its first word, and the values behind that
-abbrev pub plain_event : Event → Version × List ℕ × List Value
-plain_event (Input byte) = (First, codes "input", Byte byte ∷ [])
-plain_event EndInput = (First, codes "end", [])
-plain_event Frame = (First, codes "frame", [])
-plain_event (Device (Key byte)) = (First, codes "key", Byte byte ∷ [])
-plain_event (Device (Down mask)) = (First, codes "down", Button mask ∷ [])
-plain_event (Device (Up mask)) = (First, codes "up", Button mask ∷ [])
-plain_event (Device (Mouse x y)) = (First, codes "mouse", Pixel x ∷ Pixel y ∷ [])
-plain_event (Device (Press mask)) = (First, codes "press", MouseButton mask ∷ [])
-plain_event (Device (Release mask)) = (First, codes "release", MouseButton mask ∷ [])
-plain_event (Device (Scroll x y)) = (First, codes "scroll", Turn x ∷ Turn y ∷ [])
-plain_event (Device (DownOf player mask)) = (Second, codes "down", Button mask ∷ Player player ∷ [])
-plain_event (Device (UpOf player mask)) = (Second, codes "up", Button mask ∷ Player player ∷ [])
-plain_event Shot = (First, codes "shot", [])
-plain_event (Expect port byte) = (Second, codes "expect", Byte port ∷ Byte byte ∷ [])
-
+-- the words of an event's line
 abbrev pub event_words : Event → List (List ℕ)
 event_words event = (plain_event event).1 ∷ map value_word (plain_event event).2
 

@@ -1,13 +1,10 @@
-//! Play scripts: the clock, the arguments and the events that a program is given, read from a text and printed as one.
+//! Play scripts, read from a text and printed as one. The program prints none, and so it stands on `script_lines` alone.
 #![tactic(auto)]
 
-mod keyword;
-mod line;
+mod names;
 mod printing;
-mod reading;
-mod script;
-mod values;
 
-pub use printing::{print_script, printed_scripts_are_read, version_2_reads_version_1};
-pub use reading::read_script;
-pub use script::{Clock, Event, Script, ScriptKind, ScriptStop, Version};
+pub use printing::{print_script, printed_scripts_are_read};
+pub use script_lines::{
+    Clock, Event, Script, ScriptKind, ScriptStop, Version, read_script, version_2_reads_version_1,
+};

@@ -1,24 +1,23 @@
 //! Printing a script.
 
-ghost use Rattle.std.specs.Prelude.{◌≡◌, ◌≤◌, ◌+◌, ℕ, List, [], ◌∷◌, ◌++◌, codes, length, map, decimal, Ok, OnOk, IfOk};
+ghost use Rattle.std.specs.Prelude.{◌≡◌, ◌≤◌, List, [], ◌∷◌, ◌++◌, length, map, decimal, Ok, OnOk, IfOk};
 ghost use Rattle.std.specs.List.{flat_map};
 ghost use Rattle.std.specs.Fmt.{signed_decimal};
 ghost use Rattle.uxn_limits.specs.declared.limits.TheConstants.{TEXT_LIMIT};
 ghost use Rattle.hex.specs.Hex.{encode_lower};
-ghost use Rattle.play_script.specs.Held.{bytes_in};
-ghost use Rattle.play_script.specs.Limits.{IsScript};
-ghost use Rattle.play_script.specs.PlainText.{argument_words, clock_words, event_words, line_text, plain_event, plain_text};
+ghost use Rattle.script_lines.specs.Held.{bytes_in};
+ghost use Rattle.script_lines.specs.Limits.{IsScript};
+ghost use Rattle.script_lines.specs.PlainEvents.{plain_event};
+ghost use Rattle.play_script.specs.PlainText.{argument_words, clock_words, event_words, line_text, plain_text};
 ghost use Rattle.play_script.specs.PlainText.{text_word, value_word, version_words};
-ghost use Rattle.play_script.specs.Scripts.{ScriptView, script_of};
-ghost use Rattle.play_script.specs.declared.script.Event.TheVariants.{Device};
-ghost use Rattle.play_script.specs.declared.script.Version.TheVariants.{First, Second};
+ghost use Rattle.script_lines.specs.Scripts.{ScriptView, script_of};
+ghost use Rattle.script_lines.specs.declared.script.Event.TheVariants.{Device};
+ghost use Rattle.script_lines.specs.declared.script.Version.TheVariants.{First, Second};
 
-use crate::script::{Clock, Event, Script, Version};
-use crate::values::Value::{
-    self, Button, Byte, Minutes, MouseButton, Pixel, Player, Seconds, Turn,
-};
-use crate::values::{button_name, mouse_button_name};
+use crate::names::{button_name, mouse_button_name};
 use input_ports::Input;
+use script_lines::Value::{self, Button, Byte, Minutes, MouseButton, Pixel, Player, Seconds, Turn};
+use script_lines::{Clock, Event, Script, Version};
 use std::alloc::{AllocError, Global};
 use uxn_io_traits::{Bytes, decimal};
 
@@ -226,10 +225,4 @@ fn put_signed(text: &mut Vec<u8>, number: i64) -> Result<(), AllocError>
 /// The plain text of a script reads as an equal script, where it is not too long.
 pub fn printed_scripts_are_read()
     ensures { (script : ScriptView) → IsScript script → length (plain_text script) ≤ TEXT_LIMIT → script_of (plain_text script) ≡ Ok script }
-{}
-
-/// A text of version 1 is read by version 2 too, with the same clock, arguments and events, where `script 2` stands before it.
-pub fn version_2_reads_version_1()
-    ensures { (text : List ℕ) (script : ScriptView) → length text + 9 ≤ TEXT_LIMIT → script_of text ≡ Ok script → script.version ≡ First
-        → script_of (codes "script 2" ++ 10 ∷ text) ≡ Ok (record script { version = Second }) }
 {}
