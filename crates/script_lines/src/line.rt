@@ -173,10 +173,14 @@ fn version_of(version: Version, values: &[u8]) -> Option<Meaning>
 {
     match version {
         Version::First => None,
-        Version::Second => match first_word(values)?.0 {
-            b"2" => Some(Meaning::VersionLine),
-            _ => None,
-        },
+        Version::Second => {
+            let (number, _) = first_word(values)?;
+            if number == b"2".as_slice() {
+                Some(Meaning::VersionLine)
+            } else {
+                None
+            }
+        }
     }
 }
 

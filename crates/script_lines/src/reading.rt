@@ -64,10 +64,10 @@ fn version_at(line: &[u8]) -> Option<Version>
     if begins_with(b'#', name) {
         return None;
     }
-    match name {
-        b"script" => Some(Version::Second),
-        _ => Some(Version::First),
+    if name == b"script".as_slice() {
+        return Some(Version::Second);
     }
+    Some(Version::First)
 }
 
 // What stops a script whose line stops.
