@@ -139,8 +139,7 @@ impl Spliced {
             column: word.column,
         })?;
         self.text.extend_from_slice(text)?;
-        self.text.push(b'\n')?;
-        Ok(())
+        self.text.extend_from_slice(b"\n")
     }
 
     /// Adds a file that was read.
