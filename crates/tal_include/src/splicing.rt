@@ -202,11 +202,12 @@ impl Spliced {
                 column: word.column,
             };
             let at = FileWord { origin, text };
-            if is_include(text) {
-                self.add_include(alloc, tree, &at, deeper)?;
+            let added = if is_include(text) {
+                self.add_include(alloc, tree, &at, deeper)
             } else {
-                self.add_plain(number, word, &at)?;
-            }
+                self.add_plain(number, word, &at)
+            };
+            added?;
         }
         Ok(())
     }

@@ -1,4 +1,3 @@
-use Rattle.std.proofs.Common.{Ok}
 use Rattle.std.proofs.lemmas.Result.{err_from_is_err_and}
 use Rattle.uxn_io_traits.specs.ByteList.{ByteList}
 use Rattle.uxn_io_traits.specs.declared.trees.FileBytes.{FileBytes}
