@@ -61,13 +61,5 @@ returns-clause-value c words few so =
     (kept_by kept) (kept_by c.keep.new.self) so next few
     (omega (arith, ap length c.text-text.ensures, text-short c.args.source.now c.args.word.text, c.requires.source))
     named (ap (λ n. record { word = c.args.word; form = c.in-Ok.form; address = kept.address; size = n; lambda = None }) c.size.ensures) validated well.above
-    (record {
-      words = c.in_ok-keep.ensures.words;
-      labels = c.in_ok-keep.ensures.labels;
-      openers = c.in_ok-keep.ensures.openers;
-      scope = c.in_ok-keep.ensures.scope;
-      address = c.in_ok-keep.ensures.address;
-      small = c.in_ok-keep.ensures.small;
-      top = c.in_ok-keep.ensures.top;
-    }) in
+    c.in_ok-keep.ensures.ok in
     (validated, sym (ap form next.read) ∙ next.formed, done.0, done.1)
