@@ -127,24 +127,17 @@ fn assemble_flat(alloc: Global, main: &Path, flat: Spliced) -> Result<AssembledS
     ensures answer { Says sourced_of (flat_answer main.now flat) result }
     ensures assembled { IfOk result (λ made. IsAssembled made.text (Ok made.assembly)) }
 {
-    let assembly = flat_assembly(alloc, main, &flat)?;
-    let (text, paths) = flat.into_parts();
-    Ok(AssembledSource {
-        text: Bytes::from(text),
-        paths,
-        assembly,
-    })
-}
-
-/// What a flat text is assembled to.
-fn flat_assembly(alloc: Global, main: &Path, flat: &Spliced) -> Result<Assembly, SourceStop>
-    ensures answer { Says (λ _. record { text = flat.now.text; paths = flat.now.paths }) (flat_answer main.now flat.now) result }
-    ensures assembled { IfOk result (λ assembly. IsAssembled flat.now.text (Ok assembly)) }
-{
     match assemble(alloc, flat.text()) {
-        Ok(assembly) => Ok(assembly),
+        Ok(assembly) => {
+            let (text, paths) = flat.into_parts();
+            Ok(AssembledSource {
+                text: Bytes::from(text),
+                paths,
+                assembly,
+            })
+        }
         Err(AsmStop::Refused(fault)) => {
-            let met = flat_fault(alloc, main, flat, &fault)?;
+            let met = flat_fault(alloc, main, &flat, &fault)?;
             Err(SourceStop::Refused(met))
         }
         Err(AsmStop::NoMemory) => Err(SourceStop::NoMemory),

@@ -3,23 +3,21 @@ use Rattle.std.proofs.Common.{◌≡◌, ℕ, zero, suc, ◌+◌, ◌-◌, ◌<�
 use Rattle.std.proofs.Common.{arith}
 use Rattle.std.specs.List.{list_any}
 use Rattle.uxn_io_traits.specs.State.{TreeState}
-use Rattle.uxn_io_traits.specs.declared.trees.FileBytes.{FileBytes}
 use Rattle.uxn_inquiry.specs.declared.halt.Halt.{Halt}
-use Rattle.uxn_inquiry.specs.declared.halt.Halt.TheVariants.{NoMemory}
-use Rattle.uxn_inquiry.specs.Inquiry.{Answer, and_then, through, file_of}
+use Rattle.uxn_inquiry.specs.Inquiry.{Answer, and_then, through}
 use Rattle.uxn_inquiry.specs.Inquires.{Inquires, Says}
 use Rattle.uxn_inquiry.specs.Leads.{Leads, Here}
-use Rattle.uxn_inquiry.specs.Laws.{leads-more, leads-end, leads-stop, leads-step, leads-refused, leads-no-memory, inquires-said, through-more}
+use Rattle.uxn_inquiry.specs.Laws.{leads-more, leads-end, leads-stop, leads-step, leads-refused, inquires-said, through-more}
 use Rattle.uxn_inquiry.specs.Laws.{through-stop}
 use Rattle.tal_words.specs.declared.span.Word.{Word}
 use Rattle.tal_words.specs.Source.{word_text}
-use Rattle.uxn_limits.specs.declared.limits.TheConstants.{TEXT_LIMIT, INCLUDE_DEPTH}
+use Rattle.uxn_limits.specs.declared.limits.TheConstants.{INCLUDE_DEPTH}
 use Rattle.tal_words.specs.Comments.{words_of, word_fault}
 use Rattle.tal_include.specs.declared.faults.Origin.{Origin}
 use Rattle.tal_include.specs.declared.faults.IncludeFault.{IncludeFault}
 use Rattle.tal_include.specs.Flat.{Flat, empty_flat, flat_with_path}
-use Rattle.tal_include.specs.Includes.{is_include, included_path, path_or_kind, bytes_or_kind}
-use Rattle.tal_include.specs.Splice.{Walk, found_at, words_in, at_plain_word, at_include, at_word, through_words, through_file, walk, splice_inquiry}
+use Rattle.tal_include.specs.Includes.{is_include, included_path, path_or_kind}
+use Rattle.tal_include.specs.Splice.{Walk, found_at, words_in, at_plain_word, file_at_word, at_include, at_word, through_words, through_file, walk, splice_inquiry}
 
 walk-is : (deeper : ℕ) (path source : List ℕ) (flat : Flat) → 0 < deeper
     → walk deeper path source flat ≡ through_file (deeper - 1) (walk (deeper - 1)) path source flat
@@ -28,7 +26,7 @@ walk-is zero path source flat some = absurd (omega (arith, some))
 walk-is (suc deeper) path source flat some =
     let less : deeper ≡ suc deeper - 1 = omega arith in ap (λ (n : ℕ). through_file n (walk n) path source flat) less
 
--- an include word, step by step: its path, its file, the bytes of that, and their words
+-- an include word, step by step: its path, the bytes of its file, and their words
 module _ (deeper : ℕ) (origin : Origin) (text : List ℕ) (flat : Flat) (view : Unit {0} → Flat) (a : TreeState) where
   abbrev whole : Walk
   whole = at_include deeper (walk deeper) origin text flat
@@ -39,11 +37,8 @@ module _ (deeper : ℕ) (origin : Origin) (text : List ℕ) (flat : Flat) (view 
   abbrev with_bytes : List ℕ → List ℕ → Walk
   with_bytes path bytes = walk deeper path bytes (flat_with_path path flat)
 
-  abbrev with_file : List ℕ → FileBytes → Walk
-  with_file path file = and_then (Answer (found_at origin text (bytes_or_kind file))) (with_bytes path)
-
   abbrev with_path : List ℕ → Walk
-  with_path path = and_then (file_of path TEXT_LIMIT) (with_file path)
+  with_path path = and_then (file_at_word origin text path) (with_bytes path)
 
   pub no-path : (halt : Halt IncludeFault) → Says (λ (path : List ℕ). path) named (Err halt) → Inquires view whole a a (Err halt)
   no-path halt is = leads-refused (λ (path : List ℕ). path) view whole named with_path a a halt Here is
@@ -52,45 +47,31 @@ module _ (deeper : ℕ) (origin : Origin) (text : List ℕ) (flat : Flat) (view 
     at-path : Leads whole (with_path path) a a
     at-path = leads-step whole named with_path a a path Here is_named
 
-    pub no-file : (halt : Halt IncludeFault) → Inquires (λ (file : FileBytes). file) (file_of path TEXT_LIMIT) a b (Err halt)
+    pub no-bytes : {C : Type 0} (shown : C → List ℕ) (halt : Halt IncludeFault) → Inquires shown (file_at_word origin text path) a b (Err halt)
         → Inquires view whole a b (Err halt)
-    no-file halt p =
-        leads-stop (λ (file : FileBytes). file) view whole (file_of path TEXT_LIMIT) (with_file path) a a b halt at-path p
+    no-bytes shown halt p = leads-stop shown view whole (file_at_word origin text path) (with_bytes path) a a b halt at-path p
 
-    module _ (file : FileBytes) (read : Inquires {E = IncludeFault} (λ (file : FileBytes). file) (file_of path TEXT_LIMIT) a b (Ok file)) where
-      at-file : Leads whole (with_file path file) a b
-      at-file = leads-more (λ (file : FileBytes). file) whole (file_of path TEXT_LIMIT) (with_file path) a a b file at-path read
+    module _ {C : Type 0} (shown : C → List ℕ) (bytes : C) (some : 0 < deeper) (read : Inquires shown (file_at_word origin text path) a b (Ok bytes)) where
+      abbrev with_words : List Word → Walk
+      with_words words = through_words (deeper - 1) (walk (deeper - 1)) path (shown bytes) (flat_with_path path flat) words
 
-      pub no-bytes : {C : Type 0} (shown : C → List ℕ) (halt : Halt IncludeFault)
-          → Says shown (found_at origin text (bytes_or_kind file)) (Err halt)
-          → Inquires view whole a b (Err halt)
-      no-bytes shown halt is =
-          leads-refused shown view whole (found_at origin text (bytes_or_kind file)) (with_bytes path) a b halt at-file is
+      at-bytes : Leads whole (and_then (Answer (words_in path (shown bytes))) with_words) a b
+      at-bytes =
+          rw (walk-is deeper path (shown bytes) (flat_with_path path flat) some) at
+          (leads-more shown whole (file_at_word origin text path) (with_bytes path) a a b bytes at-path read)
 
-      module _ (bytes : List ℕ) (some : 0 < deeper) (found : found_at origin text (bytes_or_kind file) ≡ Ok bytes) where
-        abbrev with_words : List Word → Walk
-        with_words words = through_words (deeper - 1) (walk (deeper - 1)) path bytes (flat_with_path path flat) words
+      pub no-words : {D : Type 0} (list : D → List Word) (source : List ℕ) (halt : Halt IncludeFault) → source ≡ shown bytes
+          → Says list (words_in path source) (Err halt) → Inquires view whole a b (Err halt)
+      no-words list source halt same is =
+          leads-refused list view whole (words_in path (shown bytes)) with_words a b halt at-bytes
+          (subst (λ (s : List ℕ). Says list (words_in path s) (Err halt)) same is)
 
-        at-bytes : Leads whole (and_then (Answer (words_in path bytes)) with_words) a b
-        at-bytes =
-            rw (walk-is deeper path bytes (flat_with_path path flat) some) at
-            (leads-step whole (found_at origin text (bytes_or_kind file)) (with_bytes path) a b bytes at-file found)
-
-        pub no-words : {C : Type 0} (shown : C → List Word) (source : List ℕ) (halt : Halt IncludeFault) → source ≡ bytes
-            → Says shown (words_in path source) (Err halt) → Inquires view whole a b (Err halt)
-        no-words shown source halt same is =
-            leads-refused shown view whole (words_in path bytes) with_words a b halt at-bytes
-            (subst (λ (s : List ℕ). Says shown (words_in path s) (Err halt)) same is)
-
-        pub no-room : Inquires view whole a b (Err NoMemory)
-        no-room = leads-no-memory view whole (and_then (Answer (words_in path bytes)) with_words) a b at-bytes
-
-        pub all-words : (source : List ℕ) (words list : List Word) (now : Flat) (c : TreeState) (r : Result (Unit {0}) (Halt IncludeFault))
-            → source ≡ bytes → words_in path source ≡ Ok words → now ≡ flat_with_path path flat → list ≡ words
-            → Inquires view (through_words (deeper - 1) (walk (deeper - 1)) path source now list) b c r → Inquires view whole a c r
-        all-words source words list now c r same are is_now is_list p =
-            leads-end view whole (with_words words) a b c r
-            (leads-step whole (words_in path bytes) with_words a b words at-bytes (rw same at are)) (rw (is_now, same, is_list) at p)
+      pub all-words : (source : List ℕ) (words list : List Word) (now : Flat) (c : TreeState) (r : Result (Unit {0}) (Halt IncludeFault))
+          → source ≡ shown bytes → words_in path source ≡ Ok words → now ≡ flat_with_path path flat → list ≡ words
+          → Inquires view (through_words (deeper - 1) (walk (deeper - 1)) path source now list) b c r → Inquires view whole a c r
+      all-words source words list now c r same are is_now is_list p =
+          leads-end view whole (with_words words) a b c r
+          (leads-step whole (words_in path (shown bytes)) with_words a b words at-bytes (rw same at are)) (rw (is_now, same, is_list) at p)
 
 -- the words of a file, one after the other: the rest of them from a word on
 module _ (whole : Walk) (deeper : ℕ) (path source text : List ℕ) (words : List Word) (i number : ℕ) (here : Flat)

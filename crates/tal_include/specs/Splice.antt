@@ -36,12 +36,15 @@ abbrev pub at_plain_word : ℕ → Origin → Word → List ℕ → Flat → Res
 at_plain_word file origin word text flat =
     if is_long_with flat text then Err (include_fault_at origin LongFlat text) else Ok (flat_with_word file word text flat)
 
+-- the bytes of the file at a path that an include word names
+abbrev pub file_at_word : Origin → List ℕ → List ℕ → Inquiry (Result (List ℕ) IncludeFault)
+file_at_word origin text path = and_then (file_of path TEXT_LIMIT) (λ file. Answer (found_at origin text (bytes_or_kind file)))
+
 -- at an include word: its file is read, and then gone through
 abbrev pub at_include : ℕ → (List ℕ → List ℕ → Flat → Walk) → Origin → List ℕ → Flat → Walk
 at_include deeper inner origin text flat =
     and_then (Answer (found_at origin text (path_or_kind deeper (length flat.paths) (included_path flat.main text)))) (λ path.
-    and_then (file_of path TEXT_LIMIT) (λ file.
-    and_then (Answer (found_at origin text (bytes_or_kind file))) (λ bytes. inner path bytes (flat_with_path path flat))))
+    and_then (file_at_word origin text path) (λ bytes. inner path bytes (flat_with_path path flat)))
 
 module _ (deeper : ℕ) (inner : List ℕ → List ℕ → Flat → Walk) where
   -- at a word of the file with this path, these bytes and this number in the order of reading

@@ -2,6 +2,7 @@
 
 ghost use Rattle.std.specs.Prelude.{◌≡◌, ◌==◌, IsOk, OnOk, Bool};
 ghost use Rattle.std.specs.List.{find};
+ghost use Rattle.std.specs.Option.{option_copied};
 ghost use Rattle.tal_include.specs.Flat.{empty_flat, flat_with_word, flat_with_path, path_of_file, origin_at};
 
 use crate::faults::Origin;
@@ -139,8 +140,7 @@ impl Spliced {
             column: word.column,
         })?;
         self.text.extend_from_slice(text)?;
-        self.text.push(b'\n')?;
-        Ok(())
+        self.text.extend_from_slice(b"\n")
     }
 
     /// Adds a file that was read.
@@ -153,8 +153,8 @@ impl Spliced {
 }
 
 /// The word that begins at an offset.
-fn place_at(places: &[Place], at: usize) -> Option<Place>
-    ensures { result ≡ find (λ place. place.at == at) places.now }
+fn place_at(places: &[Place], at: usize) -> Option<&Place>
+    ensures { option_copied result ≡ find (λ place. place.at == at) places.now }
 {
-    places.iter().copied().find(|place| place.at == at)
+    places.iter().find(|place| place.at == at)
 }

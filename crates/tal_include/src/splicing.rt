@@ -8,7 +8,8 @@ ghost use Rattle.tal_words.specs.declared.span.Word.{Word};
 ghost use Rattle.tal_words.specs.Source.{word_text};
 ghost use Rattle.tal_words.specs.Comments.{words_of, word_fault};
 ghost use Rattle.tal_include.specs.Includes.{is_include, included_path, path_or_kind, bytes_or_kind, include_fault_at};
-ghost use Rattle.tal_include.specs.Splice.{is_long_with, found_at, words_in, at_plain_word, at_include};
+ghost use Rattle.tal_include.specs.Flat.{flat_with_path};
+ghost use Rattle.tal_include.specs.Splice.{is_long_with, found_at, words_in, at_plain_word, file_at_word, at_include};
 ghost use Rattle.tal_include.specs.Splice.{through_words, walk, is_spliced, splice_inquiry};
 
 use crate::faults::{IncludeFault, IncludeKind, Origin, SpliceStop};
@@ -163,6 +164,19 @@ impl FileWord<'_> {
             FileBytes::Found(bytes) => Ok(bytes),
         }
     }
+
+    /// Reads the file that the word includes, which is at this path.
+    fn read_file<T: Tree>(
+        &self,
+        alloc: Global,
+        tree: &mut T,
+        path: &Path,
+    ) -> Result<Bytes, SpliceStop>
+        ensures { Inquires (λ bytes. bytes.list) (file_at_word self.now.origin self.now.text.now path.now) (T.state tree.old) (T.state tree.new) result }
+    {
+        let file = read_whole(alloc, tree, path, limits::TEXT_LIMIT as u32)?;
+        self.bytes_of(file)
+    }
 }
 
 impl Spliced {
@@ -188,11 +202,12 @@ impl Spliced {
                 column: word.column,
             };
             let at = FileWord { origin, text };
-            if is_include(text) {
-                self.add_include(alloc, tree, &at, deeper)?;
+            let added = if is_include(text) {
+                self.add_include(alloc, tree, &at, deeper)
             } else {
-                self.add_plain(number, word, &at)?;
-            }
+                self.add_plain(number, word, &at)
+            };
+            added?;
         }
         Ok(())
     }
@@ -210,12 +225,10 @@ impl Spliced {
         ensures { Inquires (λ _. self.new) (at_include deeper (walk deeper) at.now.origin at.now.text.now self.old)
             (T.state tree.old) (T.state tree.new) result }
     {
-        let path = self.path_at(at, deeper)?;
-        let file = read_whole(alloc, tree, &path, limits::TEXT_LIMIT as u32)?;
-        let bytes = at.bytes_of(file)?;
+        let path = self.next_path(at, deeper)?;
+        let bytes = at.read_file(alloc, tree, &path)?;
         let source = bytes.as_slice();
         let words = words_in(alloc, &path, source)?;
-        self.add_path(&path)?;
         let file = SourceFile {
             path: &path,
             source,
@@ -224,12 +237,13 @@ impl Spliced {
         self.add_words(alloc, tree, &file, deeper - 1)
     }
 
-    /// The path of the file to be read, where files may be included so many deep.
-    fn path_at(&self, at: &FileWord<'_>, deeper: u32) -> Result<Path, SpliceStop>
+    /// Adds the path of the file to be read, where files may be included so many deep, and gives it.
+    fn next_path(&mut self, at: &FileWord<'_>, deeper: u32) -> Result<Path, SpliceStop>
         requires { 0 < length at.now.text.now }
         ensures value { Says (λ path. path) (found_at at.now.origin at.now.text.now
-            (path_or_kind deeper (length self.now.paths) (included_path self.now.main at.now.text.now))) result }
+            (path_or_kind deeper (length self.old.paths) (included_path self.old.main at.now.text.now))) result }
         ensures deep { OnOk result (0 < deeper) }
+        ensures added { IfOk result (λ path. self.new ≡ flat_with_path path self.old) }
     {
         match included_path(self.main(), at.text) {
             None => Err(at.refused(IncludeKind::BadPath)),
@@ -239,6 +253,7 @@ impl Spliced {
                 } else if self.paths().len() >= limits::INCLUDED_FILES {
                     Err(at.refused(IncludeKind::Many))
                 } else {
+                    self.add_path(&path)?;
                     Ok(path)
                 }
             }

@@ -19,7 +19,7 @@ pub use Rattle.tal_labels.specs.Answers.{next_address, next_scope, label_of, wai
 pub use Rattle.tal_labels.specs.Labels.{defined_name, labels_given, label_name, last_label, label_at, HasNoBlank, IsNamed}
 unfoldable pub use Rattle.tal_labels.specs.Labels.{scope_after, labels_of}
 pub use Rattle.tal_labels.specs.Placers.{PlacerModel, PlacerIsMaintained, next_fault, closed_labels, closed_opener, openers_step, WereAdded, kept_by}
-pub use Rattle.tal_labels.specs.Placers.{closed_at, PlacesNext}
+pub use Rattle.tal_labels.specs.Placers.{closed_at, PlacesNext, IsStep}
 pub use Rattle.tal_labels.specs.Places.{pad_value, moves, moved_since_pad, form_moves}
 unfoldable pub use Rattle.tal_labels.specs.Places.{address_after, addresses_of}
 pub use Rattle.tal_labels.specs.Placing.{is_mark_form, is_defined, place_kinds, validated_place, ends_above, lambda_address, placed_given, ends_given}

@@ -1,12 +1,12 @@
 -- What a placer keeps, with one word more.
 use Rattle.std.specs.Prelude.{slice_get}
 use Rattle.std.specs.Option.{option_map}
-use Rattle.tal_labels.proofs.Common.{◌≡◌, ℕ, ◌+◌, ◌-◌, ◌^◌, ◌<◌, Bool, true, false, List, [], ◌∷◌, ◌++◌, length, Option, Some, None, Ok, cond, refl}
+use Rattle.tal_labels.proofs.Common.{◌≡◌, ℕ, ◌+◌, ◌-◌, ◌^◌, ◌<◌, Bool, true, false, List, [], ◌∷◌, ◌++◌, length, Option, Some, None, Ok, refl}
 use Rattle.tal_labels.proofs.Common.{sym, ◌∙◌, ap, arith, length-append, append-nil, inl, inr, take-append_seam, last_of-more, ltb, Expanded}
-use Rattle.tal_labels.proofs.Common.{FaultKind, Form, fault_at, form, size, opens, closes, expanded_text, PlacedWord, next_address}
-use Rattle.tal_labels.proofs.Common.{next_scope, label_of, address_after, defined_name, shape_kinds, is_mark_form, is_defined, place_kinds}
+use Rattle.tal_labels.proofs.Common.{FaultKind, Form, fault_at, form, size, opens, closes, expanded_text, PlacedWord}
+use Rattle.tal_labels.proofs.Common.{address_after, defined_name, shape_kinds, is_mark_form, is_defined, place_kinds}
 use Rattle.tal_labels.proofs.Common.{validated_place, placed_of, shape_added, added_fault, open_word, open_ones, PlacerModel, PlacerIsMaintained}
-use Rattle.tal_labels.proofs.Common.{next_fault, closed_labels, closed_opener, openers_step}
+use Rattle.tal_labels.proofs.Common.{next_fault, closed_labels, closed_opener, openers_step, IsStep}
 use Rattle.tal_labels.specs.Scopes.{scope_text}
 use Rattle.tal_words.proofs.BraceLemmas.{opens-closes}
 use Rattle.tal_labels.proofs.CallerLemmas.{length-placed_of}
@@ -63,23 +63,13 @@ module _ (source : List ℕ) (words : List Expanded) (word : Expanded) (shape : 
       (placed_of source words ++ open_word source words word shape ∷ []) ≡ placed_of source (words ++ word ∷ [])
   placed_next = (next_ones _ _ refl refl).0
 
--- what is done with the next word
-pub record IsStep (source : List ℕ) (word : Expanded) (shape : Form) (text : List ℕ) (name : Option (List ℕ)) (placed : PlacedWord) (old new : PlacerModel) : Type 0 where
-  pub words : new.words ≡ closed_labels (closed_opener (opens text) (closes text) old.openers) old.address (old.words ++ placed ∷ [])
-  pub labels : new.labels ≡ old.labels ++ label_of name old.address
-  pub openers : new.openers ≡ openers_step (opens text) (closes text) (length old.words) old.openers
-  pub scope : scope_text source new.scope ≡ next_scope shape (scope_text source old.scope) text
-  pub address : old.address < 2 ^ 63 → length text < 2 ^ 32 → new.address ≡ next_address shape text old.address
-  pub small : length text < 2 ^ 32 → new.address < old.address + 2 ^ 32
-  pub top : new.top ≡ cond (ltb 0 placed.size) (old.address + placed.size) old.top
-
 pub next_kept : (source : List ℕ) (words : List Expanded) (word : Expanded) (shape : Form) (text : List ℕ) (name : Option (List ℕ)) (placed : PlacedWord) (old new : PlacerModel)
     → PlacerIsMaintained source words old → IsNext source word shape text → length words < 2 ^ 31 - 1 → length text < 2 ^ 32
     → name ≡ defined_name (Ok shape) (scope_text source old.scope) text
     → placed ≡ record { word = word; form = shape; address = old.address; size = size shape text; lambda = None }
     → next_fault source words word ≡ None
     → (0 < size shape text → ltb old.address old.top ≡ false)
-    → IsStep source word shape text name placed old new
+    → IsStep source shape text name placed old new
     → (placed ≡ open_word source words word shape) × PlacerIsMaintained source (words ++ word ∷ []) new
 next_kept source words word shape text name placed old new so next few short named here sound above step =
     let shaped = rw next.read at next.formed in

@@ -1,5 +1,5 @@
 -- What a placer represents.
-use Rattle.std.specs.Prelude.{◌≡◌, ◌≤◌, ℕ, ◌+◌, ◌*◌, ◌-◌, nat_lt, Bool, true, false, List, [], slice_get}
+use Rattle.std.specs.Prelude.{◌≡◌, ◌<◌, ◌≤◌, ℕ, ◌+◌, ◌*◌, ◌-◌, ◌^◌, nat_lt, if◌then◌else◌, Bool, true, false, List, [], slice_get}
 use Rattle.std.specs.Prelude.{◌∷◌, ◌++◌, length, take}
 use Rattle.std.specs.Prelude.{zero, suc, Option, Some, None, is_some, Result, Ok, Err}
 use Rattle.std.specs.Option.{option_map, option_or}
@@ -9,15 +9,17 @@ use Rattle.tal_words.specs.declared.fault.Fault.{Fault}
 use Rattle.tal_words.specs.declared.fault.AsmStop.{AsmStop}
 use Rattle.tal_words.specs.declared.fault.AsmStop.TheVariants.{Refused, NoMemory}
 use Rattle.tal_words.specs.Faults.{fault_at}
+use Rattle.tal_words.specs.declared.form.Form.{Form}
 use Rattle.tal_words.specs.declared.form.Form.TheVariants.{Refer}
 use Rattle.tal_words.specs.declared.form.Rune.{Rune}
-use Rattle.tal_words.specs.Braces.{opens}
+use Rattle.tal_words.specs.Braces.{opens, closes}
 use Rattle.tal_words.specs.Forms.{form}
 use Rattle.tal_words.specs.Order.{last_of}
 use Rattle.tal_words.specs.Source.{expanded_text}
 use Rattle.tal_labels.specs.declared.placed.PlacedWord.{PlacedWord}
 use Rattle.tal_labels.specs.declared.placer.Placer.{Placer}
 use Rattle.tal_labels.specs.declared.scope.Scope.{Scope}
+use Rattle.tal_labels.specs.Answers.{label_of, next_address, next_scope}
 use Rattle.tal_labels.specs.Places.{address_after}
 use Rattle.tal_labels.specs.Labels.{scope_after, labels_of}
 use Rattle.tal_labels.specs.Placing.{ends_above, placed_of, validated_place}
@@ -96,6 +98,16 @@ abbrev pub openers_step : Bool → Bool → ℕ → List ℕ → List ℕ
 openers_step true closing at openers = openers ++ at ∷ []
 openers_step false true at openers = take (length openers - 1) openers
 openers_step false false at openers = openers
+
+-- what is done with a word of this form and text, which defines this name
+pub record IsStep (source : List ℕ) (shape : Form) (text : List ℕ) (name : Option (List ℕ)) (placed : PlacedWord) (old new : PlacerModel) : Type 0 where
+  pub words : new.words ≡ closed_labels (closed_opener (opens text) (closes text) old.openers) old.address (old.words ++ placed ∷ [])
+  pub labels : new.labels ≡ old.labels ++ label_of name old.address
+  pub openers : new.openers ≡ openers_step (opens text) (closes text) (length old.words) old.openers
+  pub scope : scope_text source new.scope ≡ next_scope shape (scope_text source old.scope) text
+  pub address : old.address < 2 ^ 63 → length text < 2 ^ 32 → new.address ≡ next_address shape text old.address
+  pub small : length text < 2 ^ 32 → new.address < old.address + 2 ^ 32
+  pub top : new.top ≡ (if nat_lt 0 placed.size then old.address + placed.size else old.top)
 
 module _ (source : List ℕ) where
   -- a reference opens a lambda whose end is not known

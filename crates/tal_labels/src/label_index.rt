@@ -57,19 +57,11 @@ impl LabelIndex {
             name: Name::new(alloc, name.as_slice())?,
             address,
         };
-        self.add(name, label)
-    }
-
-    /// Adds a label that is found by its full name, which no label has.
-    fn add(&mut self, name: Vec<u8>, label: Label) -> Result<(), AllocError>
-        requires new { list_any (λ label. bytes_eq name.items label.name) self.old ≡ false }
-        requires named { label.name ≡ name.items }
-        ensures ok { OnOk result (self.new ≡ self.old ++ label ∷ []) }
-        ensures err { OnErr result (self.new ≡ self.old) }
-    {
         self.labels.reserve(1)?;
-        self.addresses.insert(name, label.address)?;
-        self.labels.push(label)?;
+        self.addresses.insert(name, address)?;
+        let Ok(()) = self.labels.push(label) else {
+            unreachable!()
+        };
         Ok(())
     }
 

@@ -16,7 +16,7 @@ ghost use Rattle.tal_words.specs.declared.form.Form.{Form as FormValue};
 ghost use Rattle.tal_labels.specs.Places.{address_after};
 ghost use Rattle.tal_labels.specs.Adding.{word_added, added_fault, open_ones, open_word};
 ghost use Rattle.tal_labels.specs.Scopes.{scope_text};
-ghost use Rattle.tal_labels.specs.Placers.{PlacerIsMaintained, WereAdded, PlacesNext, kept_by, closed_labels, closed_opener, openers_step};
+ghost use Rattle.tal_labels.specs.Placers.{PlacerIsMaintained, WereAdded, PlacesNext, IsStep, kept_by, closed_labels, closed_opener, openers_step};
 
 use crate::label_index::LabelIndex;
 use crate::labels::{define, defined_name, is_defined};
@@ -153,25 +153,16 @@ impl Placer {
         requires within { 0 < placed.size → placed.address + placed.size ≤ MEMORY_END }
         ensures flag { self.new.is_faulty ≡ self.old.is_faulty }
         ensures err { OnErr result (kept_by self.new ≡ kept_by self.old) }
-        ensures words { OnOk result (self.new.words.items
-            ≡ closed_labels (closed_opener (opens_brace text.now) (closes_brace text.now) self.old.openers.items) placed.address
-            (self.old.words.items ++ placed ∷ [])) }
-        ensures labels { OnOk result (self.new.labels
-            ≡ self.old.labels ++ label_of (option_map (λ bytes. bytes.items) name) placed.address) }
-        ensures openers { OnOk result (self.new.openers.items
-            ≡ openers_step (opens_brace text.now) (closes_brace text.now) (length self.old.words.items) self.old.openers.items) }
-        ensures scope { OnOk result (scope_text source.now self.new.scope
-            ≡ scope_behind placed.form (scope_text source.now self.old.scope) text.now) }
-        ensures address { OnOk result (self.old.address < 2 ^ 63 → length text.now < 2 ^ 32
-            → self.new.address ≡ address_behind placed.form text.now self.old.address) }
-        ensures small { OnOk result (length text.now < 2 ^ 32 → self.new.address < self.old.address + 2 ^ 32) }
-        ensures top { OnOk result (self.new.top ≡ (if nat_lt 0 placed.size then placed.address + placed.size else self.old.top)) }
+        ensures ok { OnOk result (IsStep source.now placed.form text.now (option_map (λ bytes. bytes.items) name) placed
+            (kept_by self.old) (kept_by self.new)) }
     {
         let at = self.words.len();
         self.words.reserve(1)?;
         self.openers.reserve(1)?;
         define(&mut self.labels, self.alloc, name, placed.address)?;
-        self.words.push(placed)?;
+        let Ok(()) = self.words.push(placed) else {
+            unreachable!()
+        };
         let opener = match_brace(&mut self.openers, text, at);
         close(&mut self.words, opener, placed.address);
         self.scope = self.scope.after(source, placed.form, placed.word.text);

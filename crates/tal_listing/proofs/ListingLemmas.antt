@@ -1,5 +1,5 @@
 -- The listing, one word at a time, and the bytes that it shows beside a word.
-use Rattle.std.proofs.Common.{◌≡◌, ℕ, ◌+◌, ◌-◌, ◌<◌, ◌≤◌, List, [], ◌∷◌, ◌++◌, length, get_or, None, Ok, refl, ap, ◌∙◌, arith, append_assoc, append-nil, zero, suc, true, false, map, find, Some}
+use Rattle.std.proofs.Common.{◌≡◌, ℕ, ◌+◌, ◌-◌, ◌<◌, ◌≤◌, List, [], ◌∷◌, ◌++◌, length, get_or, None, Ok, refl, ap, ◌∙◌, arith, append_assoc, zero, suc, true, false, map, find, Some}
 use Rattle.std.proofs.lemmas.Grind.{common_steps}
 use Rattle.std.proofs.lemmas.List.FromFn.{map-range_with_len_more, get_or-map-range_with_len, length-map-range_with_len}
 use Rattle.std.proofs.lemmas.List.Concat.{flat_map-append}
@@ -20,11 +20,11 @@ use Rattle.tal_rom.proofs.AssemblyLemmas.{sound_once}
 
 -- one more byte of memory
 pub memory_more : (rom before : List ℕ) (offset i byte : ℕ) → byte ≡ get_or rom (offset + i) 0
-    → ((before ++ spaced_bytes (memory_bytes rom (offset + 256) i)) ++ 32 ∷ []) ++ hex_of_byte byte ≡ before ++ spaced_bytes (memory_bytes rom (offset + 256) (i + 1))
+    → (before ++ spaced_bytes (memory_bytes rom (offset + 256) i)) ++ 32 ∷ hex_of_byte byte ≡ before ++ spaced_bytes (memory_bytes rom (offset + 256) (i + 1))
 memory_more rom before offset i byte read =
     let f : ℕ → ℕ = λ k. get_or rom (offset + 256 - 256 + k) 0 in
     let at : offset + 256 - 256 + i ≡ offset + i = omega arith in
-    rw (map-range_with_len_more f 0 i i (omega arith), flat_map-append, at, ← read) (simp (append_assoc, append-nil) refl)
+    rw (map-range_with_len_more f 0 i i (omega arith), flat_map-append, at, ← read) (simp append_assoc)
 
 -- the words of a source without a fault lie in memory
 pub sound_words : (source : List ℕ) → first_fault source ≡ None → LieApart source (layout source).words

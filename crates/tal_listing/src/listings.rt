@@ -87,8 +87,8 @@ fn append_memory(
 {
     for i in 0..count {
         let byte = rom.get(offset + i as usize).copied().unwrap_or(0);
-        text.push(b' ')?;
-        text.extend_from_slice(&hex_byte(byte))?;
+        let [high, low] = hex_byte(byte);
+        text.extend_from_slice(&[b' ', high, low])?;
     }
     Ok(())
 }

@@ -92,9 +92,9 @@ impl Names {
             address: Some(address),
             holes: Vec::new(alloc),
         };
-        match self.entries.insert(name, named)? {
-            Some(before) => Ok(before.holes),
-            None => Ok(Vec::new(alloc)),
-        }
+        Ok(match self.entries.insert(name, named)? {
+            Some(before) => before.holes,
+            None => Vec::new(alloc),
+        })
     }
 }

@@ -22,9 +22,7 @@ pub fn write_symbols(alloc: Global, labels: &[Label]) -> Result<Vec<u8>, AllocEr
 fn append_entry(bytes: &mut Vec<u8>, label: &Label) -> Result<(), AllocError>
     ensures { OnOk result (bytes.new.items ≡ bytes.old.items ++ entry label.now) }
 {
-    let address = label.address;
-    bytes.extend_from_slice(&[(address / 256) as u8, (address % 256) as u8])?;
+    bytes.extend_from_slice(&label.address.to_be_bytes())?;
     bytes.extend_from_slice(label.name.bytes())?;
-    bytes.push(0)?;
-    Ok(())
+    bytes.extend_from_slice(&[0])
 }

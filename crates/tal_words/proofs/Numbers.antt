@@ -1,9 +1,10 @@
 -- What the decoding of digits gives.
-use Rattle.std.proofs.Common.{◌≡◌, ℕ, ◌+◌, ◌*◌, true, ◌&&◌, ◌==◌, List, [], ◌∷◌, length, Some, Ok, refl, ap, arith}
+use Rattle.std.proofs.Common.{◌≡◌, ℕ, ◌+◌, ◌*◌, true, ◌&&◌, ◌==◌, ◌-◌, ◌≤◌, false, sym, List, [], ◌∷◌, length, Some, Ok, refl, ap, arith}
+use borrow.Rule.Slice.PartMut.{put_mid}
 use Rattle.std.proofs.lemmas.Bool.{and_parts, eqb-true}
 use Rattle.std.proofs.lemmas.Bool.Decides.{nat_tests}
 use Rattle.hex.specs.Hex.{decode_sized, decode_pairs, digit_or_error, hex_digit_value, pair_value, value_at}
-use Rattle.tal_words.specs.Digits.{is_digit, digit_value, are_digits, number_of_digits, is_byte_number, is_short_number}
+use Rattle.tal_words.specs.Digits.{is_digit, digit_value, are_digits, number_of_digits, is_byte_number, is_short_number, is_address_number}
 
 -- a lowercase digit has the value that hexadecimal text gives it
 pub digit_read : (digit : ℕ) → is_digit digit ≡ true → hex_digit_value digit ≡ Some (digit_value digit)
@@ -60,3 +61,18 @@ short_read (a ∷ b ∷ c ∷ d ∷ []) h =
 short_read (a ∷ b ∷ c ∷ d ∷ e ∷ rest) h =
     let n = eqb-true (length (a ∷ b ∷ c ∷ d ∷ e ∷ rest)) 4 (and_parts (length (a ∷ b ∷ c ∷ d ∷ e ∷ rest) == 4) (are_digits (a ∷ b ∷ c ∷ d ∷ e ∷ rest)) h).0 in
     absurd (omega (arith, n))
+
+-- one to four digits, behind zeros that make them four
+pub record Padded (text digits : List ℕ) : Type 0 where
+  pub number : is_address_number text ≡ true
+  pub four : is_short_number digits ≡ true
+  pub value : number_of_digits digits ≡ number_of_digits text
+
+pub padded : (text : List ℕ) → false ≡ (length text == 0) → length text ≤ 4 → true ≡ are_digits text
+    → Padded text (put_mid (4 - length text) (4 - (4 - length text)) (48 ∷ 48 ∷ 48 ∷ 48 ∷ []) text)
+padded [] some few h = absurd cc
+padded (a ∷ []) some few h = record { number = sym h; four = sym h; value = refl }
+padded (a ∷ b ∷ []) some few h = record { number = sym h; four = sym h; value = refl }
+padded (a ∷ b ∷ c ∷ []) some few h = record { number = sym h; four = sym h; value = refl }
+padded (a ∷ b ∷ c ∷ d ∷ []) some few h = record { number = sym h; four = sym h; value = refl }
+padded (a ∷ b ∷ c ∷ d ∷ e ∷ rest) some few h = absurd (omega (arith, few))

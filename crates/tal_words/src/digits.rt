@@ -66,15 +66,10 @@ pub fn short_number(text: &[u8]) -> Option<u16>
 pub fn address_value(text: &[u8]) -> Option<u16>
     ensures { result ≡ (if is_address_number text.now then Some (number_of_digits text.now) else None) }
 {
-    if !are_digits(text) {
+    if text.is_empty() || text.len() > 4 || !are_digits(text) {
         return None;
     }
-    let zero = b'0';
-    match text {
-        [a] => Some(short_value(&[zero, zero, zero, *a])),
-        [a, b] => Some(short_value(&[zero, zero, *a, *b])),
-        [a, b, c] => Some(short_value(&[zero, *a, *b, *c])),
-        [a, b, c, d] => Some(short_value(&[*a, *b, *c, *d])),
-        _ => None,
-    }
+    let mut digits = [b'0'; 4];
+    digits[4 - text.len()..].copy_from_slice(text);
+    Some(short_value(&digits))
 }

@@ -91,8 +91,7 @@ pub fn form_of(word: &[u8]) -> Result<Form, FaultKind>
         b'/' => unless_empty(rest, Ok(Form::Refer(Rune::Jsi))),
         b'{' => if_alone(rest, Form::Refer(Rune::Jsi)),
         b'}' => if_alone(rest, Form::LambdaEnd),
-        b'[' => if_alone(rest, Form::Ignored),
-        b']' => if_alone(rest, Form::Ignored),
+        b'[' | b']' => if_alone(rest, Form::Ignored),
         byte => match rune_of(byte) {
             Some(rune) => reference(rune, rest),
             None => Ok(bare(word)),

@@ -1,9 +1,11 @@
-use Rattle.std.proofs.Common.{arith}
-use Rattle.std.proofs.lemmas.Grind.{common_steps}
+use Rattle.std.proofs.Common.{Some, ap}
+use Rattle.tal_words.proofs.Numbers.{padded}
 use Rattle.tal_words.proofs.digits.address_value.Goals as goal
 
-pub short_value-requires-in-len3 : goal.short_value-requires-in-len3
-short_value-requires-in-len3 c = grind (arith, common_steps)
+pub short_value-requires : goal.short_value-requires
+short_value-requires c = rw c.copy_from_slice.ensures.after (padded c.args.text.now c.if-is_empty.ensures c.if-text-gt4.false c.if-not-are_digits.ensures).four
 
-pub short_value-requires-in-len4 : goal.short_value-requires-in-len4
-short_value-requires-in-len4 c = grind (arith, common_steps)
+pub returns : goal.returns
+returns c =
+    let digits = padded c.args.text.now c.if-is_empty.ensures c.if-text-gt4.false c.if-not-are_digits.ensures in
+    rw (digits.number, c.short_value.ensures, c.copy_from_slice.ensures.after) (ap Some digits.value)

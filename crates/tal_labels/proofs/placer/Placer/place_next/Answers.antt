@@ -1,5 +1,5 @@
 use Rattle.tal_labels.proofs.Common.{◌≡◌, ℕ, ◌-◌, ◌≤◌, List, length, drop, length-drop, true, Some, None, Ok, sym, ◌∙◌, ap, arith, option_map, Span}
-use Rattle.tal_labels.proofs.Common.{bytes_at, Form, LambdaEnd, form, size, ltb, defined_name, is_mark_form, formed_marks, is_defined, kept_by}
+use Rattle.tal_labels.proofs.Common.{bytes_at, expanded_text, refl, Form, LambdaEnd, form, size, ltb, defined_name, is_mark_form, formed_marks, is_defined, kept_by}
 use Rattle.std.proofs.Common.{length-take, Option, ◌<◌}
 use Rattle.std.specs.Prelude.{OnSome}
 use Rattle.std.specs.Global.{Vec}
@@ -22,17 +22,21 @@ named_low : (name : Option (Vec ℕ)) (shape : Form) (scope text : List ℕ) (ad
 named_low None shape scope text address e low = tt
 named_low (Some bytes) shape scope text address e low = low (grind arith)
 
-pub keep-requires-clause-named : goal.keep-requires-clause-named
-keep-requires-clause-named c =
+pub keep-requires : goal.keep-requires
+keep-requires c =
     let kept = c.args.self.now in
+    let form_is : form (expanded_text c.args.source.now c.args.word) ≡ Ok c.in-Ok.form = sym (ap form c.text-text.ensures) ∙ c.in-Ok.ensures.0 in
     let well = well_placed (is_defined kept.labels (option_map (λ bytes. bytes.items) c.in_ok-name.name)) kept.address (size c.in-Ok.form c.text-text.result.now) (is_mark_form c.in-Ok.form) (ltb kept.address kept.top) (sym c.in_default.ensures) in
-    named_low c.in_ok-name.name c.in-Ok.form _ _ kept.address c.in_ok-name.ensures well.mark
-
-pub keep-requires-clause-closing : goal.keep-requires-clause-closing
-keep-requires-clause-closing c closing =
-    let kept = c.args.self.now in
-    let well = well_placed (is_defined kept.labels (option_map (λ bytes. bytes.items) c.in_ok-name.name)) kept.address (size c.in-Ok.form c.text-text.result.now) (is_mark_form c.in-Ok.form) (ltb kept.address kept.top) (sym c.in_default.ensures) in
-    well.mark (mark_closes c.in-Ok.form c.text-text.result.now c.in-Ok.ensures.0 (form-closes c.text-text.result.now closing))
+    record {
+      here = refl;
+      size = c.size.ensures;
+      read = c.text-text.ensures;
+      shape = form_is;
+      new = well.new;
+      named = named_low c.in_ok-name.name c.in-Ok.form _ _ kept.address c.in_ok-name.ensures well.mark;
+      closing = λ closing. well.mark (mark_closes c.in-Ok.form c.text-text.result.now c.in-Ok.ensures.0 (form-closes c.text-text.result.now closing));
+      within = rw c.size.ensures well.high;
+    }
 
 pub returns-in-Err-clause-value : goal.returns-in-Err-clause-value
 returns-in-Err-clause-value c words few so =
@@ -61,13 +65,5 @@ returns-clause-value c words few so =
     (kept_by kept) (kept_by c.keep.new.self) so next few
     (omega (arith, ap length c.text-text.ensures, text-short c.args.source.now c.args.word.text, c.requires.source))
     named (ap (λ n. record { word = c.args.word; form = c.in-Ok.form; address = kept.address; size = n; lambda = None }) c.size.ensures) validated well.above
-    (record {
-      words = c.in_ok-keep.ensures.words;
-      labels = c.in_ok-keep.ensures.labels;
-      openers = c.in_ok-keep.ensures.openers;
-      scope = c.in_ok-keep.ensures.scope;
-      address = c.in_ok-keep.ensures.address;
-      small = c.in_ok-keep.ensures.small;
-      top = c.in_ok-keep.ensures.top;
-    }) in
+    c.in_ok-keep.ensures.ok in
     (validated, sym (ap form next.read) ∙ next.formed, done.0, done.1)
