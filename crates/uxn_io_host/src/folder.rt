@@ -76,12 +76,9 @@ impl<'a, R: Files> CurrentFolder<'a, R> {
         ensures faults { self.new.faults ≡ self.old.faults }
         ensures refused { self.new.refused ≡ self.old.refused }
     {
-        let stays = match &self.opened {
-            Some(opened) => opened.path == *path,
-            None => true,
-        };
-        if !stays {
-            self.opened = None;
+        match &self.opened {
+            Some(opened) if opened.path == *path => {}
+            _ => self.opened = None,
         }
     }
 
@@ -254,25 +251,28 @@ impl<R: Files + AllocGlobal + Clone + Drop> CurrentFolder<'_, R> {
         requires { All IsEntry entries.old.items }
         ensures { All IsEntry entries.new.items }
     {
-        for (place, found) in fs::read_dir(self.rt, text(folder)?)?.enumerate() {
-            if place == MOST_ENTRIES {
-                return Err(io::Error::from(ErrorKind::FileTooLarge));
-            }
-            self.add_found(entries, folder, found)?;
+        let mut room = MOST_ENTRIES;
+        for found in fs::read_dir(self.rt, text(folder)?)? {
+            self.add_found(entries, folder, found, &mut room)?;
         }
         Ok(())
     }
 
-    /// Adds what is listed of what was found in a folder.
+    /// Adds what is listed of what was found in a folder, if there is room for one more that is found.
     fn add_found(
         &self,
         entries: &mut Vec<Entry>,
         folder: &Path,
         found: io::Result<DirEntry<R>>,
+        room: &mut usize,
     ) -> io::Result<()>
         requires { All IsEntry entries.old.items }
         ensures { All IsEntry entries.new.items }
     {
+        if *room == 0 {
+            return Err(io::Error::from(ErrorKind::FileTooLarge));
+        }
+        *room -= 1;
         let listed = self.entry(folder, found?.file_name())?;
         if let Some(entry) = listed {
             add(entries, entry)?;
