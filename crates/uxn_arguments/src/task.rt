@@ -210,7 +210,7 @@ fn is_same(path: &Path, other: &Path) -> bool
 }
 
 /// Whether a path is among others.
-fn is_among(path: &Path, others: &[Path]) -> bool
+pub fn is_among(path: &Path, others: &[Path]) -> bool
     ensures { result ≡ list_any (bytes_eq path.now) others.now }
 {
     others.iter().any(|other| is_same(path, other))
