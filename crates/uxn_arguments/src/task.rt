@@ -120,17 +120,9 @@ impl Task {
         ensures { IfOk result (λ found. found ≡ first_clash self.now) }
     {
         let outputs = self.outputs(alloc)?;
-        self.first_clash_in(alloc, &outputs)
-    }
-
-    /// The first of its outputs that clashes. Errors when out of memory.
-    fn first_clash_in(&self, alloc: Global, outputs: &[Path]) -> Result<Option<Path>, AllocError>
-        requires { outputs.now ≡ outputs_of self.now }
-        ensures { IfOk result (λ found. found ≡ first_clash self.now) }
-    {
         let inputs = self.inputs(alloc)?;
-        let places = self.places(alloc, outputs)?;
-        Ok(clash_in(&inputs, &places, outputs).copied())
+        let places = self.places(alloc, &outputs)?;
+        Ok(clash_in(&inputs, &places, &outputs).copied())
     }
 }
 

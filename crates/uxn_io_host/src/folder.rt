@@ -118,10 +118,10 @@ impl<R: Files> CurrentFolder<'_, R> {
             Ok(metadata) if metadata.is_dir() => Ok(Kind::Folder),
             Ok(metadata) if metadata.is_file() => Ok(Kind::File(metadata.len())),
             Ok(_) => Ok(Kind::Missing),
-            Err(e) if e.kind() == ErrorKind::NotFound || e.kind() == ErrorKind::NotADirectory => {
-                Ok(Kind::Missing)
-            }
-            Err(e) => Err(e),
+            Err(e) => match e.kind() {
+                ErrorKind::NotFound | ErrorKind::NotADirectory => Ok(Kind::Missing),
+                _ => Err(e),
+            },
         }
     }
 
@@ -163,8 +163,8 @@ impl<R: Files> CurrentFolder<'_, R> {
         ensures refused { self.new.refused ≡ self.old.refused }
     {
         let opened = match self.take_opened(path, Way::Reads) {
-            Some(opened) => Some(opened),
             None => self.open_to_read(path)?,
+            opened => opened,
         };
         let Some(mut opened) = opened else {
             return Ok(0);
@@ -233,6 +233,30 @@ impl<R: Files> CurrentFolder<'_, R> {
             kind => Ok(Some(Entry { name, kind })),
         }
     }
+
+    /// Adds what is listed of what was found in a folder, if there is room for one more that is found.
+    fn add_found(
+        &self,
+        entries: &mut Vec<Entry>,
+        folder: &Path,
+        found: io::Result<DirEntry<R>>,
+        room: &mut usize,
+    ) -> io::Result<()>
+    where
+        R: Drop,
+        requires { All IsEntry entries.old.items }
+        ensures { All IsEntry entries.new.items }
+    {
+        if *room == 0 {
+            return Err(io::Error::from(ErrorKind::FileTooLarge));
+        }
+        *room -= 1;
+        let listed = self.entry(folder, found?.file_name())?;
+        if let Some(entry) = listed {
+            add(entries, entry)?;
+        }
+        Ok(())
+    }
 }
 
 impl<R: Files + AllocGlobal + Clone + Drop> CurrentFolder<'_, R> {
@@ -254,28 +278,6 @@ impl<R: Files + AllocGlobal + Clone + Drop> CurrentFolder<'_, R> {
         let mut room = MOST_ENTRIES;
         for found in fs::read_dir(self.rt, text(folder)?)? {
             self.add_found(entries, folder, found, &mut room)?;
-        }
-        Ok(())
-    }
-
-    /// Adds what is listed of what was found in a folder, if there is room for one more that is found.
-    fn add_found(
-        &self,
-        entries: &mut Vec<Entry>,
-        folder: &Path,
-        found: io::Result<DirEntry<R>>,
-        room: &mut usize,
-    ) -> io::Result<()>
-        requires { All IsEntry entries.old.items }
-        ensures { All IsEntry entries.new.items }
-    {
-        if *room == 0 {
-            return Err(io::Error::from(ErrorKind::FileTooLarge));
-        }
-        *room -= 1;
-        let listed = self.entry(folder, found?.file_name())?;
-        if let Some(entry) = listed {
-            add(entries, entry)?;
         }
         Ok(())
     }
