@@ -234,7 +234,7 @@ impl<R: Files> CurrentFolder<'_, R> {
         }
     }
 
-    /// Adds what is listed of what was found in a folder, if there is room for one more that is found.
+    /// Adds what is listed of what was found in a folder, in which `room` more may be found.
     fn add_found(
         &self,
         entries: &mut Vec<Entry>,
