@@ -1,5 +1,5 @@
 //! The rows of a table of options, and the parser that reads words by it.
-ghost use Rattle.std.specs.Prelude.{◌≡◌, ℕ, List, Some, IfOk, [], false};
+ghost use Rattle.std.specs.Prelude.{◌≡◌, ℕ, List, Some, IfOk, false};
 ghost use Rattle.clap.specs.Words.{app_of, new_rule, rule_of};
 ghost use Rattle.option_table.specs.Words.{choice_of};
 ghost use Rattle.option_table.specs.Parsing.{choice_argument, choice_in, parser_for, table_choices};
@@ -46,23 +46,16 @@ fn argument<'a>(alloc: Global, choice: &Choice) -> Arg<'a>
         .required(required)
 }
 
-/// The parser of one operand.
-fn operand_parser<'a>(alloc: Global) -> Result<Command<'a>, AllocError>
-    ensures { IfOk result (λ parser. app_of parser ≡ parser_for []) }
-{
-    let operand = Arg::new(alloc, "").action(ArgAction::Set).required(true);
-    Command::new(alloc, "")
-        .no_binary_name(true)
-        .disable_help_flag(true)
-        .disable_version_flag(true)
-        .arg(operand)
-}
-
 /// The parser of one operand and the options of a table.
 pub(crate) fn parser<'a>(alloc: Global, table: &[Choice]) -> Result<Command<'a>, AllocError>
     ensures { IfOk result (λ parser. app_of parser ≡ parser_for (table_choices table.now)) }
 {
-    let mut parser = operand_parser(alloc)?;
+    let operand = Arg::new(alloc, "").action(ArgAction::Set).required(true);
+    let mut parser = Command::new(alloc, "")
+        .no_binary_name(true)
+        .disable_help_flag(true)
+        .disable_version_flag(true)
+        .arg(operand)?;
     for choice in table {
         parser = parser.arg(argument(alloc, choice))?;
     }

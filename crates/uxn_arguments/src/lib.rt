@@ -5,5 +5,5 @@ mod options;
 mod task;
 mod words;
 
-pub use task::{AssembleTask, DebugTask, DisassembleTask, RunTask, Task, run_outputs};
+pub use task::{AssembleTask, DebugTask, DisassembleTask, RunTask, Task, is_among, run_outputs};
 pub use words::{Command, WordFault, WordStop, read_words};

@@ -120,17 +120,9 @@ impl Task {
         ensures { IfOk result (λ found. found ≡ first_clash self.now) }
     {
         let outputs = self.outputs(alloc)?;
-        self.first_clash_in(alloc, &outputs)
-    }
-
-    /// The first of its outputs that clashes. Errors when out of memory.
-    fn first_clash_in(&self, alloc: Global, outputs: &[Path]) -> Result<Option<Path>, AllocError>
-        requires { outputs.now ≡ outputs_of self.now }
-        ensures { IfOk result (λ found. found ≡ first_clash self.now) }
-    {
         let inputs = self.inputs(alloc)?;
-        let places = self.places(alloc, outputs)?;
-        Ok(clash_in(&inputs, &places, outputs).copied())
+        let places = self.places(alloc, &outputs)?;
+        Ok(clash_in(&inputs, &places, &outputs).copied())
     }
 }
 
@@ -210,7 +202,7 @@ fn is_same(path: &Path, other: &Path) -> bool
 }
 
 /// Whether a path is among others.
-fn is_among(path: &Path, others: &[Path]) -> bool
+pub fn is_among(path: &Path, others: &[Path]) -> bool
     ensures { result ≡ list_any (bytes_eq path.now) others.now }
 {
     others.iter().any(|other| is_same(path, other))

@@ -76,12 +76,9 @@ impl<'a, R: Files> CurrentFolder<'a, R> {
         ensures faults { self.new.faults ≡ self.old.faults }
         ensures refused { self.new.refused ≡ self.old.refused }
     {
-        let stays = match &self.opened {
-            Some(opened) => opened.path == *path,
-            None => true,
-        };
-        if !stays {
-            self.opened = None;
+        match &self.opened {
+            Some(opened) if opened.path == *path => {}
+            _ => self.opened = None,
         }
     }
 
@@ -121,10 +118,10 @@ impl<R: Files> CurrentFolder<'_, R> {
             Ok(metadata) if metadata.is_dir() => Ok(Kind::Folder),
             Ok(metadata) if metadata.is_file() => Ok(Kind::File(metadata.len())),
             Ok(_) => Ok(Kind::Missing),
-            Err(e) if e.kind() == ErrorKind::NotFound || e.kind() == ErrorKind::NotADirectory => {
-                Ok(Kind::Missing)
-            }
-            Err(e) => Err(e),
+            Err(e) => match e.kind() {
+                ErrorKind::NotFound | ErrorKind::NotADirectory => Ok(Kind::Missing),
+                _ => Err(e),
+            },
         }
     }
 
@@ -166,8 +163,8 @@ impl<R: Files> CurrentFolder<'_, R> {
         ensures refused { self.new.refused ≡ self.old.refused }
     {
         let opened = match self.take_opened(path, Way::Reads) {
-            Some(opened) => Some(opened),
             None => self.open_to_read(path)?,
+            opened => opened,
         };
         let Some(mut opened) = opened else {
             return Ok(0);
@@ -236,6 +233,30 @@ impl<R: Files> CurrentFolder<'_, R> {
             kind => Ok(Some(Entry { name, kind })),
         }
     }
+
+    /// Adds what is listed of what was found in a folder, in which `room` more may be found.
+    fn add_found(
+        &self,
+        entries: &mut Vec<Entry>,
+        folder: &Path,
+        found: io::Result<DirEntry<R>>,
+        room: &mut usize,
+    ) -> io::Result<()>
+    where
+        R: Drop,
+        requires { All IsEntry entries.old.items }
+        ensures { All IsEntry entries.new.items }
+    {
+        if *room == 0 {
+            return Err(io::Error::from(ErrorKind::FileTooLarge));
+        }
+        *room -= 1;
+        let listed = self.entry(folder, found?.file_name())?;
+        if let Some(entry) = listed {
+            add(entries, entry)?;
+        }
+        Ok(())
+    }
 }
 
 impl<R: Files + AllocGlobal + Clone + Drop> CurrentFolder<'_, R> {
@@ -254,28 +275,9 @@ impl<R: Files + AllocGlobal + Clone + Drop> CurrentFolder<'_, R> {
         requires { All IsEntry entries.old.items }
         ensures { All IsEntry entries.new.items }
     {
-        for (place, found) in fs::read_dir(self.rt, text(folder)?)?.enumerate() {
-            if place == MOST_ENTRIES {
-                return Err(io::Error::from(ErrorKind::FileTooLarge));
-            }
-            self.add_found(entries, folder, found)?;
-        }
-        Ok(())
-    }
-
-    /// Adds what is listed of what was found in a folder.
-    fn add_found(
-        &self,
-        entries: &mut Vec<Entry>,
-        folder: &Path,
-        found: io::Result<DirEntry<R>>,
-    ) -> io::Result<()>
-        requires { All IsEntry entries.old.items }
-        ensures { All IsEntry entries.new.items }
-    {
-        let listed = self.entry(folder, found?.file_name())?;
-        if let Some(entry) = listed {
-            add(entries, entry)?;
+        let mut room = MOST_ENTRIES;
+        for found in fs::read_dir(self.rt, text(folder)?)? {
+            self.add_found(entries, folder, found, &mut room)?;
         }
         Ok(())
     }

@@ -1,7 +1,7 @@
 -- The names that the proofs of this crate cite, handed on from one place. Declares nothing.
 pub use Rattle.std.proofs.Common.{All, Bool, Err, IfSome, IsSome, List, None, Ok, Option, Result, Some, [], ap, arith, bytes_eq, cond}
 pub use Rattle.std.proofs.Common.{count_by, drop, false, find, get_or, if◌then◌else◌, inl, inr, length, map, not, option_map, option_to_list, refl}
-pub use Rattle.std.proofs.Common.{IfOk, rules, subst, sym, take, true, true≢false, ℕ, ◌&&◌, ◌++◌, ◌+◌, ◌<◌, ◌∙◌, ◌∷◌, ◌≡◌, ◌≤◌, ◌⊎◌}
+pub use Rattle.std.proofs.Common.{IfOk, rules, subst, sym, take, take_all, true, true≢false, ℕ, ◌&&◌, ◌++◌, ◌+◌, ◌<◌, ◌∙◌, ◌∷◌, ◌≡◌, ◌≤◌, ◌⊎◌}
 pub use Rattle.std.proofs.lemmas.Grind.{common_steps}
 pub use Rattle.std.proofs.lemmas.List.{drop_all, drop_more, get_or-map, length-append, length-map, map-append, take_more}
 pub use Rattle.std.proofs.lemmas.List.Elements.{All-cons, All-head, All-nil, All-push, All-tail, All-weaker}

@@ -1,80 +1,25 @@
 //! What `asm` does: a source is assembled, and what is requested is written.
-ghost use Rattle.std.specs.Prelude.{◌≡◌, ◌++◌, Ok, Some, IfOk, OnOk};
+ghost use Rattle.std.specs.Prelude.{◌≡◌, Ok, IfOk};
 ghost use Rattle.tal_rom.specs.Assembly.{IsAssembled};
-ghost use Rattle.tal_symbols.specs.SymbolFile.{symbol_file};
-ghost use Rattle.tal_listing.specs.Listing.{listing_of};
 ghost use Rattle.uxn_inquiry.specs.Inquires.{Inquires};
 ghost use Rattle.uxn_task_files.specs.Accepted.{files_of, output_texts};
 ghost use Rattle.uxn_task_files.specs.Held.{model_of_files};
 ghost use Rattle.uxn_task_files.specs.Made.{AreApart, WritesOutputs};
 ghost use Rattle.uxn_task_files.specs.Outputs.{paths_of, observed_texts};
-ghost use Rattle.uxn_task_files.specs.World.{requested_output};
 
-use super::outputs::{Output, look_at, write_all};
+use super::outputs::{Output, look_at, push_output, write_all};
 use super::refusal::{Halt, Refusal};
 use super::sources::accept_source;
 use std::alloc::{AllocError, Global};
 use tal_assembly::AssembledSource;
 use tal_listing::listing;
-use tal_rom::Assembly;
 use tal_symbols::write_symbols;
 use uxn_arguments::AssembleTask;
 use uxn_inquiry::Halt as InquiryHalt;
 use uxn_io_traits::{Path, Tree};
 
-/// The file of a ROM.
-#[tactic(auto, using(crate::proofs::OutputLemmas::pushed))]
-fn push_rom(
-    alloc: Global,
-    outputs: &mut Vec<Output>,
-    path: &Path,
-    assembly: &Assembly,
-) -> Result<(), AllocError>
-    ensures { OnOk result (observed_texts outputs.new.items ≡ observed_texts outputs.old.items ++ requested_output (Some path.now) assembly.now.rom) }
-{
-    let bytes = Vec::from_slice(alloc, assembly.rom())?;
-    outputs.push(Output { path: *path, bytes })?;
-    Ok(())
-}
-
-/// The file of its symbols, where it was requested.
-#[tactic(auto, using(crate::proofs::OutputLemmas::pushed))]
-fn push_symbols(
-    alloc: Global,
-    outputs: &mut Vec<Output>,
-    path: &Option<Path>,
-    assembly: &Assembly,
-) -> Result<(), AllocError>
-    ensures { OnOk result (observed_texts outputs.new.items
-        ≡ observed_texts outputs.old.items ++ requested_output path.now (symbol_file assembly.now.labels)) }
-{
-    if let Some(path) = path {
-        let bytes = write_symbols(alloc, assembly.labels())?;
-        outputs.push(Output { path: *path, bytes })?;
-    }
-    Ok(())
-}
-
-/// The file of its listing, where it was requested.
-#[tactic(auto, using(crate::proofs::OutputLemmas::pushed))]
-fn push_listing(
-    alloc: Global,
-    outputs: &mut Vec<Output>,
-    path: &Option<Path>,
-    source: &AssembledSource,
-) -> Result<(), AllocError>
-    requires { IsAssembled source.now.text (Ok source.now.assembly) }
-    ensures { OnOk result (observed_texts outputs.new.items
-        ≡ observed_texts outputs.old.items ++ requested_output path.now (listing_of source.now.text source.now.assembly)) }
-{
-    if let Some(path) = path {
-        let bytes = listing(alloc, source.text(), source.assembly())?;
-        outputs.push(Output { path: *path, bytes })?;
-    }
-    Ok(())
-}
-
 /// The files that were requested, with what they are to hold.
+#[tactic(auto, using(crate::proofs::OutputLemmas::pushed))]
 fn outputs_of(
     alloc: Global,
     task: &AssembleTask,
@@ -83,10 +28,18 @@ fn outputs_of(
     requires { IsAssembled source.now.text (Ok source.now.assembly) }
     ensures { IfOk result (λ outputs. observed_texts outputs.items ≡ output_texts task.now source.now.text) }
 {
+    let assembly = source.assembly();
     let mut outputs = Vec::new(alloc);
-    push_rom(alloc, &mut outputs, &task.out, source.assembly())?;
-    push_symbols(alloc, &mut outputs, &task.symbols, source.assembly())?;
-    push_listing(alloc, &mut outputs, &task.listing, source)?;
+    let rom = Vec::from_slice(alloc, assembly.rom())?;
+    push_output(&mut outputs, &task.out, rom)?;
+    if let Some(path) = &task.symbols {
+        let symbols = write_symbols(alloc, assembly.labels())?;
+        push_output(&mut outputs, path, symbols)?;
+    }
+    if let Some(path) = &task.listing {
+        let listing = listing(alloc, source.text(), assembly)?;
+        push_output(&mut outputs, path, listing)?;
+    }
     Ok(outputs)
 }
 
@@ -108,9 +61,12 @@ pub fn assemble<T: Tree>(
     ensures { Inquires model_of_files (files_of task.now) (T.state tree.old) (T.state tree.new) result }
 {
     let source = accept_source(alloc, &task.file, tree)?;
-    let outputs = outputs_of(alloc, task, &source)?;
+    let outputs = outputs_of(alloc, task, &source);
     let (_, included) = source.into_parts();
-    Ok(Written { included, outputs })
+    Ok(Written {
+        included,
+        outputs: outputs?,
+    })
 }
 
 /// Writes the files that were requested.

@@ -1,22 +1,12 @@
 //! The outputs of a run, which are made before it.
-ghost use Rattle.std.specs.Prelude.{◌≡◌, ◌++◌, IfOk, OnOk, ◌∷◌, []};
+ghost use Rattle.std.specs.Prelude.{◌≡◌, IfOk};
 ghost use Rattle.uxn_task_files.specs.Outputs.{paths_of};
 ghost use Rattle.uxn_task_files.specs.Made.{AreApart, MakesOutputs};
 
-use super::outputs::{Output, look_at, make_all};
+use super::outputs::{Output, look_at, make_all, push_output};
 use super::refusal::{Halt, Refusal};
 use std::alloc::{AllocError, Global};
 use uxn_io_traits::{Path, Tree};
-
-/// Puts a file without bytes behind others.
-#[tactic(auto, using(crate::proofs::OutputLemmas::pushed))]
-fn push_output(alloc: Global, outputs: &mut Vec<Output>, path: &Path) -> Result<(), AllocError>
-    ensures { OnOk result (paths_of outputs.new.items ≡ paths_of outputs.old.items ++ path.now ∷ []) }
-{
-    let bytes = Vec::new(alloc);
-    outputs.push(Output { path: *path, bytes })?;
-    Ok(())
-}
 
 /// The files of a task, which have no bytes yet.
 pub fn empty_outputs(alloc: Global, paths: &[Path]) -> Result<Vec<Output>, AllocError>
@@ -24,7 +14,7 @@ pub fn empty_outputs(alloc: Global, paths: &[Path]) -> Result<Vec<Output>, Alloc
 {
     let mut outputs = Vec::new(alloc);
     for path in paths {
-        push_output(alloc, &mut outputs, path)?;
+        push_output(&mut outputs, path, Vec::new(alloc))?;
     }
     Ok(outputs)
 }

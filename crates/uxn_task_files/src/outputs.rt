@@ -1,7 +1,5 @@
 //! The files that a command writes.
-ghost use Rattle.std.specs.Prelude.{◌≡◌, None, IfOk, IfSome, is_err};
-ghost use Rattle.std.specs.List.{list_any};
-ghost use Rattle.std.specs.Str.{bytes_eq};
+ghost use Rattle.std.specs.Prelude.{◌≡◌, ◌++◌, ◌∷◌, [], None, IfOk, IfSome, OnOk, is_err};
 ghost use Rattle.uxn_inquiry.specs.Inquires.{Inquires, Says};
 ghost use Rattle.uxn_task_files.specs.Accepted.{free_output, free_outputs, said_output};
 ghost use Rattle.uxn_io_traits.specs.Ended.{creating_all};
@@ -11,6 +9,8 @@ ghost use Rattle.uxn_task_files.specs.Outputs.{observed_texts, paths_of};
 ghost use Rattle.uxn_task_files.specs.Made.{IsUnmade, unmade_file};
 
 use super::refusal::Refusal;
+use std::alloc::AllocError;
+use uxn_arguments::is_among;
 use uxn_inquiry::{Halt as InquiryHalt, can_create};
 use uxn_io_traits::{Failed, Path, Tree, append_all};
 
@@ -23,18 +23,16 @@ pub struct Output {
     pub bytes: Vec<u8>,
 }
 
-/// Whether two paths are the same.
-fn is_same(path: &Path, other: &Path) -> bool
-    ensures { result ≡ bytes_eq path.now other.now }
+/// Puts a file and what it is to hold behind others.
+pub(crate) fn push_output(
+    outputs: &mut Vec<Output>,
+    path: &Path,
+    bytes: Vec<u8>,
+) -> Result<(), AllocError>
+    ensures { OnOk result (outputs.new.items ≡ outputs.old.items ++ record { path = path.now; bytes = bytes } ∷ []) }
 {
-    path.bytes() == other.bytes()
-}
-
-/// Whether a path is among others.
-fn is_among(path: &Path, others: &[Path]) -> bool
-    ensures { result ≡ list_any (bytes_eq path.now) others.now }
-{
-    others.iter().any(|other| is_same(path, other))
+    outputs.push(Output { path: *path, bytes })?;
+    Ok(())
 }
 
 /// Refuses an output that cannot be made, or is an included file.

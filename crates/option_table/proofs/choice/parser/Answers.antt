@@ -1,9 +1,15 @@
 use Rattle.std.proofs.lemmas.Grind.{common_steps}
-use Rattle.std.proofs.Common.{arith, ◌∙◌, ap, ap₂, sym, map, take, ◌∷◌, []}
+use Rattle.std.proofs.Common.{arith, rules, ◌≡◌, ◌∙◌, ap, ap₂, sym, map, take, ◌∷◌, []}
 use Rattle.std.proofs.lemmas.List.{map_more, map-append}
-use Rattle.clap.specs.Words.{with_rule}
+use Rattle.clap.specs.Words.{app_of, rule_of, with_rule}
 use Rattle.option_table.specs.Parsing.{choice_in, table_choices, choice_argument, parser_of, operand_argument}
 use Rattle.option_table.proofs.choice.parser.Goals as goal
+
+pub loop-choice-init : goal.loop-choice-init
+loop-choice-init c =
+    let app : app_of c.disable_version_flag.result ≡ parser_of [] = search rules in
+    let rule : rule_of c.required-operand.result ≡ operand_argument = search rules in
+    c.in_ok-parser.ensures.shape (search rules) ∙ ap₂ with_rule app rule
 
 pub loop-choice-preserved : goal.loop-choice-preserved
 loop-choice-preserved c =

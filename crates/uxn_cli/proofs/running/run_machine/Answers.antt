@@ -79,7 +79,7 @@ returns-in_err-tally-clause-runs g c =
 
 -- without a root no file was refused
 pub returns-clause-refusals : goal.returns-clause-refusals
-returns-clause-refusals g c = grind arith
+returns-clause-refusals g c = search (rules, c.in_ok-tally.ensures.refusals)
 
 pub returns-in_err-tally-clause-refusals : goal.returns-in_err-tally-clause-refusals
-returns-in_err-tally-clause-refusals g c = grind arith
+returns-in_err-tally-clause-refusals g c = search (rules, c.in_err-tally.ensures.refusals)

@@ -1,5 +1,5 @@
-use Rattle.uxn_task_files.proofs.Common.{Err, [], ap, arith, length, map, refl, rules, sym, take, ◌+◌, ◌∙◌, ◌∷◌, ◌≡◌, ◌≤◌, length-append}
-use Rattle.uxn_task_files.proofs.Common.{take_more, All-push, ByteList, largest_rom, map-append, machine_of, gather-stop, gather-more, gather-end, leads-more, drop_more}
+use Rattle.uxn_task_files.proofs.Common.{Err, [], ap, arith, length, refl, rules, ◌+◌, ◌∙◌, ◌∷◌, ◌≡◌, ◌≤◌, length-append}
+use Rattle.uxn_task_files.proofs.Common.{All-push, ByteList, largest_rom, map-append, machine_of, gather-stop, gather-more, gather-end, leads-more, drop_more}
 use Rattle.uxn_inquiry.specs.Laws.{leads-start, leads-no-memory}
 use Rattle.uxn_inquiry.specs.declared.halt.Halt.TheVariants.{NoMemory}
 use Rattle.uxn_task_files.proofs.machines.accept_roms.Goals as goal
@@ -26,12 +26,10 @@ returns-in_err-push-clause-roms g c =
 pub loop-path-preserved : goal.loop-path-preserved
 loop-path-preserved g c =
     let rom = c.in_ok-rom.rom in
-    let lists = map-append (λ (text : ByteList). text.list) c.loop-path.roms.items (rom ∷ []) in
     record {
       leads = gather-more machine_of _ _ _ _ _ _ c.loop-path.invariant.leads (λ (text : ByteList). text.list) _ _ rom _ c.loop-path-test.true c.path-item.is
-          (ap (map (λ (text : ByteList). text.list)) c.in_ok-push.ensures.items ∙ lists) c.in_ok-rom.ensures.rom;
-      count = ap length c.in_ok-push.ensures.items ∙ length-append c.loop-path.roms.items (rom ∷ []) ∙ ap (λ n. n + 1) c.loop-path.invariant.count
-          ∙ sym (ap length (take_more c.args.paths.now c.loop-path.path-index c.path-item.result c.loop-path-test.true) ∙ length-append (take c.loop-path.path-index c.args.paths.now) _);
+          (rw c.in_ok-push.ensures.items (map-append (λ (text : ByteList). text.list) c.loop-path.roms.items (rom ∷ []))) c.in_ok-rom.ensures.rom;
+      count = rw c.in_ok-push.ensures.items (length-append c.loop-path.roms.items (rom ∷ []) ∙ ap (λ n. n + 1) c.loop-path.invariant.count);
       fit = rw c.in_ok-push.ensures.items (All-push (λ (r : ByteList). length r.list ≤ largest_rom) c.loop-path.roms.items rom c.loop-path.invariant.fit c.in_ok-rom.ensures.fits);
     }
 

@@ -3,5 +3,5 @@ use Rattle.std.specs.List.{All}
 use Rattle.uxn_io_traits.specs.Children.{IsEntry}
 use Rattle.uxn_io_host.proofs.folder.CurrentFolder.add_entries.Given as goal
 
-abbrev pub invariant-loop-place : goal.invariant-loop-place
-invariant-loop-place g l = All IsEntry l.entries.items
+abbrev pub invariant-loop-found : goal.invariant-loop-found
+invariant-loop-found g l = All IsEntry l.entries.items
