@@ -1,4 +1,4 @@
-use Rattle.vector_loop.proofs.Common.{List, [], false, length, refl, rules, sym, true, ◌∙◌, ◌∷◌, ◌≡◌}
+use Rattle.vector_loop.proofs.Common.{List, [], false, length, refl, rules, true, ◌∷◌, ◌≡◌}
 use Rattle.std.specs.Prelude.{◌==◌}
 use Rattle.play_script.specs.Held.{bytes_in}
 use Rattle.uxn_io_traits.specs.ByteList.{ByteList}
@@ -16,8 +16,8 @@ not-ready (text ∷ texts) none = search rules
 
 pub returns-then-not-is_empty-clause-devices : goal.returns-then-not-is_empty-clause-devices
 returns-then-not-is_empty-clause-devices g c state stands =
-    rw (← ready _ (sym c.if-not-is_empty.true ∙ c.is_empty.ensures)) (rw c.byte.ensures at c.store.ensures.devices.bus state stands)
+    rw (← ready _ c.if-not-is_empty.ensures) (rw c.byte.ensures at c.store.ensures.devices.bus state stands)
 
 pub returns-else-not-is_empty-clause-devices : goal.returns-else-not-is_empty-clause-devices
 returns-else-not-is_empty-clause-devices g c state stands =
-    rw (← not-ready _ (sym c.if-not-is_empty.false ∙ c.is_empty.ensures)) stands
+    rw (← not-ready _ c.if-not-is_empty.ensures) stands
