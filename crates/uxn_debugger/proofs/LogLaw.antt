@@ -292,7 +292,10 @@ module _ (labels : List Label) (moments : List Shown) (end : Shown) where
           ∙ sym (ap (λ index. log_from (met goal breaks log index) commands) (index-later goal breaks waits other))
 
       comes-moment : Comes i (s ∷ left)
-      comes-moment = search (arith, rules, comes-awaited, comes-later)
+      comes-moment commands goal breaks log waits = elim (cases_Bool (is_awaited goal breaks s.moment.address)) [
+        | inl awaited ↦ comes-awaited commands goal breaks log waits awaited
+        | inr other ↦ comes-later commands goal breaks log waits other
+      ]
 
     module _ (i : ℕ) (is : i ≡ length moments) (none : drop i moments ≡ []) where
       -- what is done at the end
@@ -341,7 +344,8 @@ module _ (labels : List Label) (moments : List Shown) (end : Shown) where
 
     comes : (left : List Shown) (i : ℕ) → drop i moments ≡ left → i ≤ length moments → Comes i left
     comes [] i is le = comes-end i (omega (arith, length-drop i moments, ap length is)) is
-    comes (s ∷ left) i is le = search (arith, rules, comes-moment, drop_next, within, comes left)
+    comes (s ∷ left) i is le =
+        comes-moment i s left is (comes left (i + 1) (drop_next moments i s left is) (omega (arith, within moments i s left is)))
 
 pub keeps_the_log : UndoLaws → KeepsTheLog
 unfolding log_of

@@ -8,10 +8,9 @@ flat_range_suc : (f : ℕ → List ℕ) (a n j : ℕ) → a + n ≡ j → flat_m
 flat_range_suc f a zero j is = let same : a ≡ j = omega arith in rw same (append-nil (f j))
 flat_range_suc f a (suc n) j is = ap (λ more. f a ++ more) (flat_range_suc f (a + 1) n j (omega arith)) ∙ sym (append_assoc (f a) (flat_map f (range_with_len (a + 1) n)) (f j))
 
--- three pieces are put, which are the next part
-pub part_put : (f : ℕ → List ℕ) (n : ℕ) (log log0 log1 log2 log3 start byte last : List ℕ)
-    → log0 ≡ log ++ flat_map f (range_with_len 0 n) → log1 ≡ log0 ++ start → log2 ≡ log1 ++ byte → log3 ≡ log2 ++ last
-    → (start ++ byte) ++ last ≡ f n → log3 ≡ log ++ flat_map f (range_with_len 0 (n + 1))
+-- the next part is put
+pub part_put : (f : ℕ → List ℕ) (n : ℕ) (log log0 log1 part : List ℕ) → log0 ≡ log ++ flat_map f (range_with_len 0 n) → log1 ≡ log0 ++ part
+    → part ≡ f n → log1 ≡ log ++ flat_map f (range_with_len 0 (n + 1))
 part_put = grind (arith, common_steps, flat_range_suc)
 
 -- all parts make the table

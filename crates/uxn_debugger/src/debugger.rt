@@ -279,8 +279,8 @@ impl<'a> Debugger<'a> {
 }
 
 // Whether a command goes back to a moment that is kept.
-fn is_back(command: DebugCommand) -> bool
-    ensures { result ≡ is_back command }
+fn is_back(command: &DebugCommand) -> bool
+    ensures { result ≡ is_back command.now }
 {
     matches!(command, DebugCommand::Back(_))
 }
@@ -289,7 +289,7 @@ fn is_back(command: DebugCommand) -> bool
 fn has_back(commands: &[DebugCommand]) -> bool
     ensures { result ≡ list_any is_back commands.now }
 {
-    commands.iter().any(|command| is_back(*command))
+    commands.iter().any(is_back)
 }
 
 // A page has a byte for each port.

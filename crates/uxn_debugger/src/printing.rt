@@ -7,6 +7,7 @@ ghost use Rattle.system_port.specs.DebugText.{spaced};
 ghost use Rattle.uxn_debugger.specs.Printing.{
   address_line,
   held_line,
+  in_lines,
   label_text,
   memory_table,
   newline,
@@ -172,9 +173,7 @@ fn put_memory(
 {
     for at in 0..count {
         let here = address.wrapping_add(at);
-        put_line_start(log, at, &hex_short(here))?;
-        put_byte(log, scene.byte(here))?;
-        put_line_end(log, at, count)?;
+        put_cell(log, at, count, &hex_short(here), scene.byte(here))?;
     }
     Ok(())
 }
@@ -188,11 +187,18 @@ fn put_ports<P: Ports>(log: &mut Vec<u8>, scene: &Scene<'_>, ports: &P) -> Resul
 {
     for at in 0..PORTS {
         let port = at as u8;
-        put_line_start(log, at, &hex_byte(port))?;
-        put_byte(log, scene.port(ports, port))?;
-        put_line_end(log, at, PORTS)?;
+        put_cell(log, at, PORTS, &hex_byte(port), scene.port(ports, port))?;
     }
     Ok(())
+}
+
+// Prints a byte of a table of so many, with the name of its line where it is the first of one.
+fn put_cell(log: &mut Vec<u8>, at: u16, count: u16, name: &[u8], byte: u8) -> Result<(), AllocError>
+    ensures { OnOk result (log.new.items ≡ log.old.items ++ in_lines (λ here. name.now) (λ here. byte) count at) }
+{
+    put_line_start(log, at, name)?;
+    put_byte(log, byte)?;
+    put_line_end(log, at, count)
 }
 
 // Begins a line with its name before its first byte.
@@ -200,7 +206,7 @@ fn put_line_start(log: &mut Vec<u8>, at: u16, name: &[u8]) -> Result<(), AllocEr
     ensures { OnOk result (log.new.items ≡ log.old.items ++ (if at % 16 == 0 then name.now else [])) }
 {
     if at % ROW == 0 {
-        log.extend_from_slice(name)?;
+        return log.extend_from_slice(name);
     }
     Ok(())
 }
@@ -209,9 +215,7 @@ fn put_line_start(log: &mut Vec<u8>, at: u16, name: &[u8]) -> Result<(), AllocEr
 fn put_byte(log: &mut Vec<u8>, byte: u8) -> Result<(), AllocError>
     ensures { OnOk result (log.new.items ≡ log.old.items ++ spaced byte) }
 {
-    log.push(b' ')?;
-    log.extend_from_slice(&hex_byte(byte))?;
-    Ok(())
+    append_pieces(log, &[b" ", &hex_byte(byte)])
 }
 
 // Ends a line behind its last byte.
@@ -220,7 +224,7 @@ fn put_line_end(log: &mut Vec<u8>, at: u16, count: u16) -> Result<(), AllocError
         ++ (if at % 16 == 15 || at + 1 == count then newline else [])) }
 {
     if at % ROW == ROW - 1 || u32::from(at) + 1 == u32::from(count) {
-        log.push(b'\n')?;
+        return log.extend_from_slice(b"\n");
     }
     Ok(())
 }

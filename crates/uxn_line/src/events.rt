@@ -10,7 +10,7 @@ use vector_loop::PendingInput;
 pub fn are_of_console(events: &[Event]) -> bool
     ensures { result ≡ list_all is_of_console events.now }
 {
-    events.iter().all(|event| is_of_console(event))
+    events.iter().all(is_of_console)
 }
 
 // Whether an event gives the console a byte.

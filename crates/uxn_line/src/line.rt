@@ -196,10 +196,11 @@ impl<'a> Line<'a> {
         ensures { Came (suc before) result [] self.old self.new }
     {
         let none_comes = self.members[before].is_over();
-        if self.members[before + 1].must_wait(none_comes) {
+        let behind = before + 1;
+        if self.members[behind].must_wait(none_comes) {
             return Moved::Waits;
         }
-        self.members[before + 1].give_next(self.budget);
+        self.members[behind].give_next(self.budget);
         Moved::Gave
     }
 

@@ -15,7 +15,7 @@ use Rattle.file_ports.specs.Actions.{FileAction, Name, Read, Write, Stat, Delete
 use Rattle.file_ports.specs.AnswersAction.{AnswersAction, FileStopped, MemoryLeft, outcome_by, changes_unknown, changes_by, device_left, ActedOrStopped, MayWant, DeviceTakesNames}
 use Rattle.file_ports.specs.PartLaws.{below-files_by, outcome-same}
 use Rattle.uxn_io_traits.specs.EachLaws.{each-parts}
-use Rattle.file_ports.specs.ActLaws.{lie-none, parent-kept, rootless, act-nowhere, changes-of, path-kept}
+use Rattle.file_ports.specs.ActLaws.{lie-none, parent-kept, rootless, act-nowhere, changes-of, path-kept, changes-lie}
 use Rattle.uxn_io_traits.specs.CallLaws.{ended-as}
 use Rattle.file_ports.specs.OutsideLaws.{still-there}
 use Rattle.input_ports.specs.Page.{short_stores}
@@ -107,9 +107,9 @@ stays-by root changes None now lie is = rw is (rw (contents_after-none changes) 
 stays-by root changes (Some nodes) now lie is =
     rw is (rw (contents_after-some nodes changes) (record { stays = λ path outside there. still-there root path changes nodes lie outside there }))
 
-pub files-stay : (root : Option (List ℕ)) (changes : List Change) (failed : Bool) (a b : TreeState) → LieIn root changes → TreeEnded changes failed a b
+stays-after : (root : Option (List ℕ)) (changes : List Change) (failed : Bool) (a b : TreeState) → LieIn root changes → TreeEnded changes failed a b
     → FilesStay root a.contents b.contents
-files-stay root changes failed a b lie ended = by failed ended.stands
+stays-after root changes failed a b lie ended = by failed ended.stands
   where
     by : (how : Bool) → StandsAfter changes how a.contents b.contents → FilesStay root a.contents b.contents
     by false is = stays-by root changes a.contents b.contents lie is
@@ -119,9 +119,14 @@ files-stay root changes failed a b lie ended = by failed ended.stands
 
 -- ---- the devices of a machine
 
-pub held-suits : (number : FileNumber) (devices : Devices) → Suits devices.root (file_held number devices)
+held-suits : (number : FileNumber) (devices : Devices) → Suits devices.root (file_held number devices)
 held-suits First devices = devices.first_suits
 held-suits Second devices = devices.second_suits
+
+pub files-stay : (action : FileAction) (number : FileNumber) (devices : Devices) (memory : List ℕ) (failed : Bool) (a b : TreeState)
+    → TreeEnded (changes_by action a.contents (file_held number devices) memory) failed a b → FilesStay devices.root a.contents b.contents
+files-stay action number devices memory failed a b =
+    stays-after devices.root _ failed a b (changes-lie action devices.root a.contents (file_held number devices) memory (held-suits number devices))
 
 -- devices represent a state whatever its part of the tree
 with_part : (number : FileNumber) (devices : Devices) (device : FileState) (state : DeviceState) (part : Nodes)

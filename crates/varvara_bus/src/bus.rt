@@ -67,7 +67,7 @@ fn answer(put: Result<(), Failed>) -> Result<(), Stop>
     ensures ok { is_err result ≡ is_err put }
     ensures err { OnErr result (result ≡ Err Stop.SinkFault) }
 {
-    put.map_err(|_| Stop::SinkFault)
+    put.or(Err(Stop::SinkFault))
 }
 
 /// Puts the debug text, where the byte is not 0.
@@ -249,7 +249,7 @@ impl<'a, T: Tree, O: Sink, E: Sink> Bus<'a, T, O, E> {
             → BusRepresents (contents_on T.Tree) self.new (piece_appended path.now piece.now state)) }
         ensures same { SameBus T.Tree self.old self.new }
     {
-        append_all(self.tree, path, piece).map_err(|_| Stop::TreeFault)
+        append_all(self.tree, path, piece).or(Err(Stop::TreeFault))
     }
 }
 

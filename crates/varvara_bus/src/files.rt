@@ -12,6 +12,7 @@ ghost use Rattle.varvara_bus.specs.FileCalls.{
   Performed,
   FileAnswers,
   FileEnded,
+  stop_of,
   stopped_by_tree,
 };
 ghost use Rattle.varvara_bus.specs.Bus.{FilesStay, file_held};
@@ -131,7 +132,16 @@ pub(crate) fn act_on_file<T: Tree>(
             store_short(devices, number.base() + 0x02, success);
             Ok(())
         }
-        Err(FileStop::TreeFault) => Err(Stop::TreeFault),
-        Err(FileStop::NoMemory) => Err(Stop::NoMemory),
+        Err(stop) => Err(stop_of(stop)),
+    }
+}
+
+/// A stop of a file device as one of a port.
+fn stop_of(stop: FileStop) -> Stop
+    ensures { result ≡ stop_of stop }
+{
+    match stop {
+        FileStop::TreeFault => Stop::TreeFault,
+        FileStop::NoMemory => Stop::NoMemory,
     }
 }

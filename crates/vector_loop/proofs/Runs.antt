@@ -1,12 +1,12 @@
 -- The run of a script, and its end.
-use Rattle.std.specs.Prelude.{IfErr, OnOk, Result, ◌⊎◌}
+use Rattle.std.specs.Prelude.{IfErr, IfOk, OnOk, Result, ◌⊎◌}
 use Rattle.vector_loop.proofs.Common.{Answers, Bus, Core, Count, Err, FollowsFrom, Models, NoMemory, Ok, Page, Runner, Running, State, Stop, Tally}
-use Rattle.vector_loop.proofs.Common.{Trace, ap, contents_on, inr, page_in, refl, running, running_state, sym, ◌∙◌, ◌≡◌, arith, rules}
+use Rattle.vector_loop.proofs.Common.{Trace, ap, contents_on, inl, inr, page_in, refl, running, running_state, ◌∙◌, ◌≡◌}
 use Rattle.varvara_bus.specs.Bus.{HasRoot, ReadsPort, held_page}
 use Rattle.vector_loop.specs.Watch.{IsPage, MayRefuse, moment_of}
 use Rattle.vector_loop.specs.Follows.{EndsFrom, FallsShortFrom}
 use Rattle.vector_loop.specs.Stops.{RunStops, StopsInFrom}
-use Rattle.vector_loop.specs.Answers.{moment_in, running_of}
+use Rattle.vector_loop.specs.Answers.{Finishes, running_of}
 use Rattle.vector_loop.proofs.Along.{is_page, reached}
 use Rattle.vector_loop.proofs.Stopping.{run-short, falls_short_from}
 
@@ -30,73 +30,66 @@ module _ {T O E W H : Type 0} (models : Models T O E W H) where
         };
   }
 
-  -- the same of a runner that was asked to finish
-  pub ends-handed : {X : Type 0} (a b c : Runner T O E W) (core : Core) (bus : Bus T O E) (tally : Tally) (watcher : W)
-      (part : State → Trace) (m : Count) (x : X) → Answers models a b part m (Ok x)
-      → ((page : Page) → IsPage (ReadsPort b.bus.now b.core.now) (held_page b.bus.now) page
-      → models.held c.watcher.now ≡ models.ended (models.held b.watcher.now) b.core.now page (moment_in b))
-      → record b { watcher = c.watcher } ≡ c → core ≡ c.core.now → bus ≡ c.bus.now → tally ≡ c.tally → watcher ≡ c.watcher.now
-      → EndsFrom models (running_of a) (running core bus tally watcher) part
-  ends-handed a b c core bus tally watcher part m x answers shown_end others is_core is_bus is_tally is_watcher =
-      let then : Runner T O E W → Running T O E W = λ r. running r.core.now r.bus.now r.tally c.watcher.now in
-      rw (is_core, is_bus, is_tally, is_watcher)
-      (rw (ap then others) at (ends-run (running_of a) (running_of b) part c.watcher.now answers.reaches shown_end))
+  -- what is known of a run by its answer
+  pub record RunHanded (before : Running T O E W) (core : Core) (bus : Bus T O E) (watcher : W) (part : State → Trace) (result : Result Tally Stop)
+      : Type 0 where
+    pub ok : IfOk result (λ tally. EndsFrom models before (running core bus tally watcher) part)
+    pub stopped : IfErr result (λ stop. RunStops models before core bus watcher stop part)
+    pub err : IfErr result (λ stop. FallsShortFrom models before (running core bus before.tally watcher) stop part)
 
-  -- a run stopped before its end
+  stops-handed : (before : Running T O E W) (core : Core) (bus : Bus T O E) (watcher : W) (part : State → Trace) (stop : Stop)
+      → RunStops models before core bus watcher stop part → RunHanded before core bus watcher part (Err stop)
+  stops-handed before core bus watcher part stop stops =
+      record { ok = tt; stopped = stops; err = run-short models before core bus before.tally watcher part stop stops }
+
+  -- it stopped before its end
   pub run-stopped : {X : Type 0} (a b : Runner T O E W) (core : Core) (bus : Bus T O E) (watcher : W) (part : State → Trace) (m : Count) (stop : Stop)
-      → core ≡ b.core.now → bus ≡ b.bus.now → watcher ≡ b.watcher.now → Answers models {X = X} a b part m (Err stop)
-      → RunStops models (running_of a) core bus watcher stop part
-  run-stopped = search (arith, rules)
+      (result : Result Tally Stop) → result ≡ Err stop → running core bus b.tally watcher ≡ running_of b → Answers models {X = X} a b part m (Err stop)
+      → RunHanded (running_of a) core bus watcher part result
+  run-stopped a b core bus watcher part m stop result is now answers =
+      rw is (stops-handed (running_of a) core bus watcher part stop (record { tally = b.tally; stops = inl (rw now answers.reaches.within) }))
 
-  pub run-fell : {X : Type 0} (a b : Runner T O E W) (core : Core) (bus : Bus T O E) (tally : Tally) (watcher : W) (part : State → Trace) (m : Count)
-      (stop : Stop)
-      → core ≡ b.core.now → bus ≡ b.bus.now → watcher ≡ b.watcher.now → Answers models {X = X} a b part m (Err stop)
-      → FallsShortFrom models (running_of a) (running core bus tally watcher) stop part
-  run-fell = search (arith, rules, run-short, run-stopped)
+  -- all of it was done, and then its end was shown to the watcher, or not
+  pub run-finished : {X : Type 0} (a b c : Runner T O E W) (core : Core) (bus : Bus T O E) (watcher : W) (part : State → Trace) (m : Count) (x : X)
+      (result : Result Tally Stop) → running core bus c.tally watcher ≡ running_of c → Answers models a b part m (Ok x) → Finishes models b c result
+      → RunHanded (running_of a) core bus watcher part result
+  run-finished a b c core bus watcher part m x result now answers finishes = by result finishes
+    where
+      counted : Running T O E W → Running T O E W
+      counted r = record r { tally = b.tally }
 
-  -- all of it was done, and the watcher refused to be shown its end
-  pub end-refused : {X : Type 0} (a b c : Runner T O E W) (core : Core) (bus : Bus T O E) (watcher : W) (part : State → Trace) (m : Count) (x : X)
-      (stop : Stop) → Answers models a b part m (Ok x) → models.may_refuse (models.held b.watcher.now) (models.held c.watcher.now)
-      → stop ≡ NoMemory → record b { watcher = c.watcher } ≡ c → core ≡ c.core.now → bus ≡ c.bus.now → watcher ≡ c.watcher.now
-      → RunStops models (running_of a) core bus watcher stop part
-  end-refused a b c core bus watcher part m x stop answers may memory others is_core is_bus is_watcher = record {
-    tally = b.tally;
-    stops = inr (record {
-      here = running_of b;
-      follows = answers.reaches;
-      refused = record {
-        left = rw is_watcher may;
-        memory = memory;
-        core = is_core ∙ ap (λ (r : Runner T O E W). r.core.now) (sym others);
-        bus = is_bus ∙ ap (λ (r : Runner T O E W). r.bus.now) (sym others);
-        tally = refl;
-      };
-    });
-  }
+      by : (result : Result Tally Stop) → Finishes models b c result → RunHanded (running_of a) core bus watcher part result
+      by (Ok tally) finishes = record {
+        ok = rw (finishes.tally, ap counted now, ← ap (λ r. counted (running_of r)) finishes.others)
+            (ends-run (running_of a) (running_of b) part c.watcher.now answers.reaches finishes.ok);
+        stopped = tt;
+        err = tt;
+      }
+      by (Err stop) finishes = stops-handed (running_of a) core bus watcher part stop (record {
+        tally = b.tally;
+        stops = inr (rw (ap counted now, ← ap (λ r. counted (running_of r)) finishes.others) (record {
+          here = running_of b;
+          follows = answers.reaches;
+          refused = record { left = finishes.refused; memory = finishes.err; core = refl; bus = refl; tally = refl };
+        }));
+      })
 
-  -- what a runner did that was handed back, by the answer
-  pub handed-ok : {X : Type 0} (a b : Runner T O E W) (core : Core) (bus : Bus T O E) (watcher : W) (part : State → Trace) (m : Count)
-      (result : Result X Stop)
-      → core ≡ b.core.now → bus ≡ b.bus.now → watcher ≡ b.watcher.now → Answers models a b part m result
-      → OnOk result (FollowsFrom models (running_of a) (running core bus b.tally watcher) part)
-  handed-ok a b core bus watcher part m (Ok x) is_core is_bus is_watcher answers = rw (is_core, is_bus, is_watcher) answers.reaches
-  handed-ok a b core bus watcher part m (Err stop) is_core is_bus is_watcher answers = tt
+  -- what is known of a part by its answer: all of it was done, or not; memory ran out only to the watcher, or where there is a root
+  pub record Handed {X : Type 0} (before now : Running T O E W) (part : State → Trace) (result : Result X Stop) : Type 0 where
+    pub ok : OnOk result (FollowsFrom models before now part)
+    pub err : IfErr result (λ stop. FallsShortFrom models before now stop part)
+    pub stopped : IfErr result (λ stop. StopsInFrom models before now stop part)
+    pub memory : IfErr result (λ stop. stop ≡ NoMemory → MayRefuse models.may_refuse ⊎ HasRoot before.bus.devices.now)
 
-  pub handed-stopped : {X : Type 0} (a b : Runner T O E W) (core : Core) (bus : Bus T O E) (watcher : W) (part : State → Trace) (m : Count)
-      (result : Result X Stop)
-      → core ≡ b.core.now → bus ≡ b.bus.now → watcher ≡ b.watcher.now → Answers models a b part m result
-      → IfErr result (λ stop. StopsInFrom models (running_of a) (running core bus b.tally watcher) stop part)
-  handed-stopped a b core bus watcher part m (Ok x) is_core is_bus is_watcher answers = tt
-  handed-stopped a b core bus watcher part m (Err stop) is_core is_bus is_watcher answers = rw (is_core, is_bus, is_watcher) answers.reaches.within
-
-  -- so not all of it was done
-  pub handed-short : {X : Type 0} (before now : Running T O E W) (part : State → Trace) (result : Result X Stop)
-      → IfErr result (λ stop. StopsInFrom models before now stop part) → IfErr result (λ stop. FallsShortFrom models before now stop part)
-  handed-short before now part (Ok x) stopped = tt
-  handed-short before now part (Err stop) stopped = falls_short_from models before now stop part stopped
-
-  -- and memory ran out only to the watcher, or where there is a root
-  pub handed-memory : {X : Type 0} (a b : Runner T O E W) (part : State → Trace) (m : Count) (result : Result X Stop) → Answers models a b part m result
-      → IfErr result (λ stop. stop ≡ NoMemory → MayRefuse models.may_refuse ⊎ HasRoot a.bus.now.devices.now)
-  handed-memory a b part m (Ok x) answers = tt
-  handed-memory a b part m (Err stop) answers = answers.reaches.memory
+  -- what a runner answered, of what it handed back
+  pub handed : {X : Type 0} (a b : Runner T O E W) (now : Running T O E W) (part : State → Trace) (m : Count) (result : Result X Stop)
+      → now ≡ running_of b → Answers models a b part m result → Handed (running_of a) now part result
+  handed a b now part m (Ok x) is answers = record { ok = rw is answers.reaches; err = tt; stopped = tt; memory = tt }
+  handed a b now part m (Err stop) is answers =
+      let stopped : StopsInFrom models (running_of a) now stop part = rw is answers.reaches.within in
+      record {
+        ok = tt;
+        err = falls_short_from models (running_of a) now stop part stopped;
+        stopped = stopped;
+        memory = answers.reaches.memory;
+      }

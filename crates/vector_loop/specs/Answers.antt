@@ -1,5 +1,5 @@
 -- What a part of a run answers: it was done, or it stopped.
-use Rattle.std.specs.Prelude.{◌≡◌, ℕ, ◌+◌, ◌*◌, ◌^◌, ◌<◌, ◌≤◌, ◌⊎◌, Option, None, Result, Ok, Err, IfOk}
+use Rattle.std.specs.Prelude.{◌≡◌, ℕ, ◌+◌, ◌*◌, ◌^◌, ◌<◌, ◌≤◌, ◌⊎◌, Option, None, Result, Ok, Err, IfOk, IfErr, OnOk, OnErr}
 use Rattle.uxn_io_traits.specs.Files.{Nodes}
 use Rattle.uxn_io_traits.specs.Faults.{Ledger}
 use Rattle.uxn_io_traits.specs.Ended.{RefusesNone}
@@ -10,14 +10,15 @@ use Rattle.uxn_opcodes.specs.declared.Stop.TheVariants.{NoMemory}
 use Rattle.uxn_opcodes.specs.Ports.{result_blame}
 use Rattle.varvara_bus.specs.declared.bus.Bus.{Bus}
 use Rattle.varvara_bus.specs.State.{DeviceState}
-use Rattle.varvara_bus.specs.Bus.{SameBorrowed, SameBus, BusRepresents, FilesStay, HasRoot, frames_begun, bus_faults, bus_rules, contents_on}
+use Rattle.varvara_bus.specs.Bus.{SameBorrowed, SameBus, BusRepresents, FilesStay, HasRoot, ReadsPort, held_page}
+use Rattle.varvara_bus.specs.Bus.{frames_begun, bus_faults, bus_rules, contents_on}
 use Rattle.vector_loop.specs.declared.output.Outputs.{Outputs}
 use Rattle.vector_loop.specs.declared.runner.Runner.{Runner}
 use Rattle.vector_loop.specs.declared.tally.Tally.{Tally}
 use Rattle.vector_loop.specs.declared.tally.VectorEnd.{VectorEnd}
 use Rattle.vector_loop.specs.declared.watch.Moment.{Moment}
 use Rattle.vector_loop.specs.State.{State}
-use Rattle.vector_loop.specs.Watch.{MayRefuse}
+use Rattle.vector_loop.specs.Watch.{Page, IsPage, MayRefuse}
 use Rattle.vector_loop.specs.Trace.{Trace}
 use Rattle.vector_loop.specs.Vector.{instructions, ends_by}
 use Rattle.vector_loop.specs.Budget.{RanWhole, budget_with_break, counting_run}
@@ -99,6 +100,16 @@ module _ {T O E W H : Type 0} (models : Models T O E W H) where
     pub grown : HasGrown before.tally now.tally most.vectors most.events before.budget
     pub frames : frames_begun now.bus.now ≤ frames_begun before.bus.now + most.events
     pub same : SameRunner models.meaning.tree before now
+
+  -- the watcher was shown the end of the run, and what was counted is answered, or it refused since out of memory; nothing else changes
+  pub record Finishes (before now : Runner T O E W) (result : Result Tally Stop) : Type 0 where
+    pub ok : OnOk result ((page : Page) → IsPage (ReadsPort before.bus.now before.core.now) (held_page before.bus.now) page
+        → models.held now.watcher.now ≡ models.ended (models.held before.watcher.now) before.core.now page (moment_in before))
+    pub tally : IfOk result (λ tally. tally ≡ before.tally)
+    pub err : IfErr result (λ stop. stop ≡ NoMemory)
+    pub refused : OnErr result (models.may_refuse (models.held before.watcher.now) (models.held now.watcher.now))
+    pub others : record before { watcher = now.watcher } ≡ now
+    pub watcher : now.watcher.ghost_name ≡ before.watcher.ghost_name
 
   -- what the instructions of a vector came to, so many of which ran before the last one: all of it was done and it ended as it does, or
   -- it stopped; and so many are counted as ran whole

@@ -67,9 +67,9 @@ fn append_picture<'a, T: Tree, O: Sink, E: Sink>(
         (λ state. map (λ byte. ToFile path.now byte) (picture_bytes state)) result }
 {
     let palette = bus.palette();
-    let width = bus.screen().width();
-    let height = bus.screen().height();
-    let head = ppm_head(width, height);
+    let screen = bus.screen();
+    let height = screen.height();
+    let head = ppm_head(screen.width(), height);
     append_to(bus, path, head.as_slice())?;
     let mut row = [0; ROW];
     for y in 0..height {

@@ -1,5 +1,5 @@
 //! Whole runs.
-ghost use Rattle.std.specs.Prelude.{◌≡◌, ◌+◌, ◌≤◌, ◌⊎◌, None, OnOk, OnErr, IfOk, IfErr};
+ghost use Rattle.std.specs.Prelude.{◌≡◌, ◌+◌, ◌≤◌, ◌⊎◌, None, OnOk, IfOk, IfErr};
 ghost use Rattle.uxn_limits.specs.declared.limits.TheConstants.{MOST_EVENTS};
 ghost use Rattle.uxn_io_traits.specs.Ended.{RefusesNone};
 ghost use Rattle.uxn_io_traits.specs.Faults.{Ledger};
@@ -11,23 +11,21 @@ ghost use Rattle.varvara_bus.specs.Bus.{
   FilesStay,
   HasRoot,
   BusRepresents,
-  ReadsPort,
   ChangesDevices,
   meaning_of,
   frames_begun,
   bus_faults,
-  held_page,
   contents_on,
 };
 ghost use Rattle.vector_loop.specs.State.{new_tally};
 ghost use Rattle.vector_loop.specs.Outputs.{OutputsThere};
-ghost use Rattle.vector_loop.specs.Watch.{Page, IsPage, MayRefuse};
+ghost use Rattle.vector_loop.specs.Watch.{MayRefuse};
 ghost use Rattle.vector_loop.specs.Event.{unless_over, give_each};
 ghost use Rattle.vector_loop.specs.Run.{made_ready, most_of, run};
 ghost use Rattle.vector_loop.specs.PendingInputs.{given, input_count, counts_of};
 ghost use Rattle.vector_loop.specs.Follows.{running, models_of, FallsShortFrom, EndsFrom};
 ghost use Rattle.vector_loop.specs.Stops.{RunStops};
-ghost use Rattle.vector_loop.specs.Answers.{HasTallyRoom, HasOutputs, moment_in, Answers};
+ghost use Rattle.vector_loop.specs.Answers.{HasTallyRoom, HasOutputs, Answers, Finishes};
 
 use crate::input_queue::InputQueue;
 use crate::output::Outputs;
@@ -89,22 +87,18 @@ impl<'r, 'a, T: Tree, O: Sink, E: Sink, W: Watcher> Runner<'r, 'a, T, O, E, W> {
         self.give_all(InputQueue::new(script), outputs)
     }
 
-    /// Shows the watcher the end of the run.
-    fn finish(&mut self) -> Result<(), Stop>
-        ensures ok { OnOk result ((page : Page) → IsPage (ReadsPort self.old.bus.now self.old.core.now) (held_page self.old.bus.now) page
-            → W.held self.new.watcher.now ≡ W.ended (W.held self.old.watcher.now) self.old.core.now page (moment_in self.old)) }
-        ensures err { IfErr result (λ stop. stop ≡ Stop.NoMemory) }
-        ensures refused { OnErr result (W.may_refuse (W.held self.old.watcher.now) (W.held self.new.watcher.now)) }
-        ensures others { record self.old { watcher = self.new.watcher } ≡ self.new }
-        ensures watcher { self.new.watcher.ghost_name ≡ self.old.watcher.ghost_name }
+    /// Shows the watcher the end of the run, and gives what was counted.
+    fn finish(&mut self) -> Result<Tally, Stop>
+        ensures { Finishes (models_of T.Tree O.Sink E.Sink W.Watcher) self.old self.new result }
     {
         let moment = Moment {
             instructions: self.tally.instructions,
             address: self.core.at,
         };
-        self.watcher
-            .finish(self.core, self.bus, moment)
-            .map_err(|_| Stop::NoMemory)
+        match self.watcher.finish(self.core, self.bus, moment) {
+            Ok(()) => Ok(self.tally),
+            Err(_) => Err(Stop::NoMemory),
+        }
     }
 }
 
@@ -174,6 +168,5 @@ pub fn run_script<'a, T: Tree, O: Sink, E: Sink, W: Watcher>(
         budget,
     };
     runner.run(script, outputs)?;
-    runner.finish()?;
-    Ok(runner.tally)
+    runner.finish()
 }

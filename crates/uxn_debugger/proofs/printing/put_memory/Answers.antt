@@ -6,8 +6,7 @@ use Rattle.uxn_debugger.proofs.printing.put_memory.Goals as goal
 
 pub loop-at-preserved : goal.loop-at-preserved
 loop-at-preserved c page =
-    part_put _ c.loop-at.at _ _ _ _ _ _ _ _ (c.loop-at.invariant page) c.in_ok-put_line_start.ensures c.in_ok-put_byte.ensures c.in_ok-put_line_end.ensures
-    (rw (c.hex_short.ensures, c.byte.ensures page) refl)
+    part_put _ c.loop-at.at _ _ _ _ (c.loop-at.invariant page) c.in_ok-put_cell.ensures (rw (c.hex_short.ensures, c.byte.ensures page) refl)
 
 pub returns : goal.returns
 returns c page =

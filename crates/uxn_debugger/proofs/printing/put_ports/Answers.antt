@@ -7,9 +7,8 @@ use Rattle.uxn_debugger.proofs.printing.put_ports.Goals as goal
 
 pub loop-at-preserved : goal.loop-at-preserved
 loop-at-preserved g c page is_page =
-    part_put (in_lines hex_of_byte (λ at. get_or (view_in c.args.scene.now page.read).page at 0) 256) c.loop-at.at _ _ _ _ _ _ _ _
-    (c.loop-at.invariant page is_page)
-    c.in_ok-put_line_start.ensures c.in_ok-put_byte.ensures c.in_ok-put_line_end.ensures
+    part_put (in_lines hex_of_byte (λ at. get_or (view_in c.args.scene.now page.read).page at 0) 256) c.loop-at.at _ _ _ _
+    (c.loop-at.invariant page is_page) c.in_ok-put_cell.ensures
     (rw (c.hex_byte.ensures, c.port.ensures page is_page) refl)
 
 pub returns : goal.returns

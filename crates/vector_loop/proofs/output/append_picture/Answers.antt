@@ -8,10 +8,10 @@ returns-in_err-append_to g c =
     let result : c.from_residual.result ≡ Err c.in_err-append_to.field-0.0 = search rules in
     rw result (putting-cut _ _ _ _ c.args.path.now picture_bytes picture_bytes (λ s. c.as_slice.result.now)
     (λ s. flat_map (picture_row_of c.palette-palette.result.colours s.picture) (range_with_len 0 (c.height-height.result - 0)))
-    (λ s stands. picture-parts s c.width-width.result c.height-height.result c.palette-palette.result.colours c.as_slice.result.now
-    (c.width-width.ensures ∙ (c.screen.ensures.screen s stands.devices).width)
-    (c.height-height.ensures ∙ (c.screen-2.ensures.screen s stands.devices).height) (c.palette-palette.ensures s stands.devices)
-    (◌∙◌ {c = head_bytes c.width-width.result c.height-height.result} c.as_slice.ensures.value c.ppm_head-head.ensures))
+    (λ s stands. picture-parts s c.width.result c.height-height.result c.palette-palette.result.colours c.as_slice.result.now
+    (c.width.ensures ∙ (c.screen-screen.ensures.screen s stands.devices).width)
+    (c.height-height.ensures ∙ (c.screen-screen.ensures.screen s stands.devices).height) (c.palette-palette.ensures s stands.devices)
+    (◌∙◌ {c = head_bytes c.width.result c.height-height.result} c.as_slice.ensures.value c.ppm_head-head.ensures))
     (λ after answer made. made) _ c.in_err-append_to.ensures)
 
 pub loop-y-init : goal.loop-y-init
@@ -19,10 +19,10 @@ loop-y-init g c = record {
   putting =
       putting-more _ _ _ _ c.args.path.now picture_bytes picture_bytes (λ s. c.as_slice.result.now)
       (λ s. flat_map (picture_row_of c.palette-palette.result.colours s.picture) (range_with_len 0 (c.height-height.result - 0)))
-      (λ s stands. picture-parts s c.width-width.result c.height-height.result c.palette-palette.result.colours c.as_slice.result.now
-      (c.width-width.ensures ∙ (c.screen.ensures.screen s stands.devices).width)
-      (c.height-height.ensures ∙ (c.screen-2.ensures.screen s stands.devices).height) (c.palette-palette.ensures s stands.devices)
-      (◌∙◌ {c = head_bytes c.width-width.result c.height-height.result} c.as_slice.ensures.value c.ppm_head-head.ensures))
+      (λ s stands. picture-parts s c.width.result c.height-height.result c.palette-palette.result.colours c.as_slice.result.now
+      (c.width.ensures ∙ (c.screen-screen.ensures.screen s stands.devices).width)
+      (c.height-height.ensures ∙ (c.screen-screen.ensures.screen s stands.devices).height) (c.palette-palette.ensures s stands.devices)
+      (◌∙◌ {c = head_bytes c.width.result c.height-height.result} c.as_slice.ensures.value c.ppm_head-head.ensures))
       (λ after answer made. made) c.in_ok-append_to.ensures;
   same = c.in_ok-append_to.ensures.same;
   height = c.in_ok-append_to.ensures.height;

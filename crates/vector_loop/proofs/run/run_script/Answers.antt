@@ -1,34 +1,41 @@
-use Rattle.vector_loop.proofs.Common.{Err, arith, refl, rules, ◌≡◌}
-use Rattle.vector_loop.specs.Run.{most_of, run}
+use Rattle.vector_loop.proofs.Common.{arguments_given, arith, rules}
+use Rattle.vector_loop.specs.Run.{most_of}
 use Rattle.vector_loop.proofs.Counting.{room-new}
 use Rattle.vector_loop.proofs.Giving.{all-given}
 use Rattle.vector_loop.proofs.PendingInputs.{inputs-count}
-use Rattle.vector_loop.proofs.Runs.{end-refused, ends-handed, run-fell, run-stopped}
+use Rattle.vector_loop.proofs.Runs.{run-finished, run-stopped}
 use Rattle.vector_loop.proofs.run.run_script.Goals as goal
 
 pub run-requires-clause-frames : goal.run-requires-clause-frames
-run-requires-clause-frames = search (arith, rules, inputs-count)
+run-requires-clause-frames g c =
+    omega (arith, c.requires.frames, (inputs-count (arguments_given c.args.script.now.arguments) c.args.script.now.events).events)
 
 pub run-requires-clause-room : goal.run-requires-clause-room
-run-requires-clause-room = search (arith, rules, all-given, inputs-count, room-new)
-
-pub returns-clause-ok : goal.returns-clause-ok
-returns-clause-ok g c =
-    ends-handed _ _ _ _ _ _ _ _ _ (most_of c.args.script.now) _ c.in_ok-run.ensures c.in_ok-finish.ensures.ok c.in_ok-finish.ensures.others
-    (search rules) (search rules) refl (search rules)
+run-requires-clause-room g c =
+    let counts = inputs-count (arguments_given c.args.script.now.arguments) c.args.script.now.events in
+    room-new _ _ c.requires.budget (omega (arith, counts.vectors, all-given c.args.script.now.arguments)) (omega (arith, counts.events)) (omega arith)
 
 pub returns-in_err-run-clause-stopped : goal.returns-in_err-run-clause-stopped
-returns-in_err-run-clause-stopped = search (arith, rules, run-stopped)
+returns-in_err-run-clause-stopped g c =
+    (run-stopped _ _ _ _ _ _ _ (most_of c.args.script.now) c.in_err-run.field-0.0 _ (search rules) (search rules)
+    c.in_err-run.ensures).stopped
 
 pub returns-in_err-run-clause-err : goal.returns-in_err-run-clause-err
 returns-in_err-run-clause-err g c =
-    let result : c.from_residual.result ≡ Err c.in_err-run.field-0.0 = search rules in
-    rw result (run-fell _ _ _ _ _ _ _ _ (most_of c.args.script.now) c.in_err-run.field-0.0 (search rules) (search rules)
-    (search rules) c.in_err-run.ensures)
+    (run-stopped _ _ _ _ _ _ _ (most_of c.args.script.now) c.in_err-run.field-0.0 _ (search rules) (search rules)
+    c.in_err-run.ensures).err
 
-pub returns-in_err-finish-clause-stopped : goal.returns-in_err-finish-clause-stopped
-returns-in_err-finish-clause-stopped g c =
-    let result : c.from_residual-in_err-finish.result ≡ Err c.in_err-finish.field-0.0 = search rules in
-    rw result (end-refused _ _ _ _ _ _ _ (run c.args.budget c.args.outputs.now c.args.script.now)
-    (most_of c.args.script.now) _ c.in_err-finish.field-0.0 c.in_ok-run.ensures c.in_err-finish.ensures.refused
-    c.in_err-finish.ensures.err c.in_err-finish.ensures.others (search rules) (search rules) (search rules))
+pub returns-clause-ok : goal.returns-clause-ok
+returns-clause-ok g c =
+    (run-finished _ _ _ _ _ _ _ _ (most_of c.args.script.now) _ _ (search rules) c.in_ok-run.ensures
+    c.finish.ensures).ok
+
+pub returns-clause-stopped : goal.returns-clause-stopped
+returns-clause-stopped g c =
+    (run-finished _ _ _ _ _ _ _ _ (most_of c.args.script.now) _ _ (search rules) c.in_ok-run.ensures
+    c.finish.ensures).stopped
+
+pub returns-clause-err : goal.returns-clause-err
+returns-clause-err g c =
+    (run-finished _ _ _ _ _ _ _ _ (most_of c.args.script.now) _ _ (search rules) c.in_ok-run.ensures
+    c.finish.ensures).err

@@ -1,18 +1,15 @@
-use Rattle.vector_loop.proofs.Common.{rules}
-use Rattle.vector_loop.proofs.Runs.{handed-memory, handed-ok, handed-short, handed-stopped}
+use Rattle.vector_loop.proofs.Common.{refl, rules}
+use Rattle.vector_loop.proofs.Runs.{handed}
 use Rattle.vector_loop.proofs.vector.run_vector.Goals as goal
 
 pub returns-clause-ok : goal.returns-clause-ok
-returns-clause-ok g c = handed-ok _ _ _ _ _ _ _ _ _ (search rules) (search rules) (search rules) c.run_vector-end.ensures.answers
-
-pub returns-clause-stopped : goal.returns-clause-stopped
-returns-clause-stopped g c =
-    handed-stopped _ _ _ _ _ _ _ _ _ (search rules) (search rules) (search rules) c.run_vector-end.ensures.answers
+returns-clause-ok g c = (handed _ _ _ _ _ _ _ (search rules) c.run_vector-end.ensures.answers).ok
 
 pub returns-clause-err : goal.returns-clause-err
-returns-clause-err g c =
-    handed-short _ _ _ _ _
-    (handed-stopped _ _ _ _ _ _ _ _ _ (search rules) (search rules) (search rules) c.run_vector-end.ensures.answers)
+returns-clause-err g c = (handed _ _ _ _ _ _ _ (search rules) c.run_vector-end.ensures.answers).err
+
+pub returns-clause-stopped : goal.returns-clause-stopped
+returns-clause-stopped g c = (handed _ _ _ _ _ _ _ (search rules) c.run_vector-end.ensures.answers).stopped
 
 pub returns-clause-memory : goal.returns-clause-memory
-returns-clause-memory g c = handed-memory _ _ _ _ _ _ c.run_vector-end.ensures.answers
+returns-clause-memory g c = (handed _ _ _ _ _ _ _ refl c.run_vector-end.ensures.answers).memory

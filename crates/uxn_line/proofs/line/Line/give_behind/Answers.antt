@@ -6,6 +6,15 @@ use Rattle.uxn_line.proofs.line.Line.give_behind.Goals as goal
 some-once : (items : List Member) (i : ℕ) (a b : Member) → slice_get items i ≡ Some a → slice_get items i ≡ Some b → a ≡ b
 some-once items i a b p q = let e : Some a ≡ Some b = sym p ∙ q in cc
 
+pub index-requires : goal.index-requires
+index-requires c = omega (arith, slice_get_within c.args.self.now.members.items _ _ c.requires.1.there)
+
+pub index-requires-2 : goal.index-requires-2
+index-requires-2 c = omega (arith, slice_get_within c.args.self.now.members.items _ _ c.requires.1.there)
+
+pub index_mut-requires : goal.index_mut-requires
+index_mut-requires c = omega (arith, slice_get_within c.args.self.now.members.items _ _ c.requires.1.there)
+
 pub returns-then-must_wait : goal.returns-then-must_wait
 returns-then-must_wait c =
     let line = c.args.self.now in

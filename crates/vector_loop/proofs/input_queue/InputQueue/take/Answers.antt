@@ -4,3 +4,6 @@ use Rattle.vector_loop.proofs.input_queue.InputQueue.take.Goals as goal
 
 pub returns-in-len1-up-clause-rest : goal.returns-in-len1-up-clause-rest
 returns-in-len1-up-clause-rest = search (arith, rules, takes-newline)
+
+pub returns-in-len1-up-clause-value : goal.returns-in-len1-up-clause-value
+returns-in-len1-up-clause-value = search (arith, rules, takes-newline)
