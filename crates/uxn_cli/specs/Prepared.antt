@@ -4,7 +4,7 @@ use Rattle.std.specs.Global.{Vec}
 use Rattle.uxn_inquiry.specs.Gives.{Gives}
 use Rattle.uxn_io_traits.specs.Files.{Nodes}
 use Rattle.uxn_opcodes.specs.Rule.{new_core}
-use Rattle.play_script.specs.Scripts.{ScriptView}
+use Rattle.script_lines.specs.Scripts.{ScriptView}
 use Rattle.varvara_bus.specs.State.{DevicesRepresent, new_state}
 use Rattle.varvara_bus.specs.declared.devices.Devices.{Devices}
 use Rattle.uxn_arguments.specs.Options.{run_outputs}

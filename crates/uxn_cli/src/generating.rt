@@ -18,7 +18,7 @@ ghost use Rattle.uxn_cli.specs.Verdict.{accepted_summary};
 use super::host::Host;
 use super::machine::{Machine, new_machine};
 use super::running::{RunEnd, Settings, run_machine};
-use play_script::Script;
+use script_lines::Script;
 use std::alloc::{AllocError, Global};
 use tal_assembly::SourceFault;
 use tal_rom::assemble;

@@ -1,11 +1,11 @@
 //! The report of a run.
 ghost use Rattle.std.specs.Prelude.{◌≡◌, ◌+◌, ◌≤◌, ◌++◌, length};
 ghost use Rattle.arrayvec.specs.ArrayVec.{array_vec_len};
-ghost use Rattle.play_script.specs.declared.script.Version.TheVariants.{Second as second};
+ghost use Rattle.script_lines.specs.declared.script.Version.TheVariants.{Second as second};
 ghost use Rattle.uxn_cli.specs.RunJob.{common_lines, further_lines, report_line, report_text};
 
 use arrayvec::ArrayVec;
-use play_script::Version;
+use script_lines::Version;
 use uxn_io_traits::decimal;
 use vector_loop::Tally;
 

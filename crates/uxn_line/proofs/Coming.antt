@@ -3,7 +3,7 @@ use Rattle.uxn_line.proofs.Common.{common_steps, is_none, slice_get, list_all, a
 use Rattle.uxn_line.proofs.Common.{[], ◌∷◌, ◌++◌, drop, map, refl, inl, inr, ap, ◌∙◌, arith, Option, PendingInput, OfEvent, ConsoleByte}
 use Rattle.uxn_line.proofs.Common.{pending_inputs_of, AreForConsole, IsForConsole, LineJob, AreOfConsole, script_at, stream, next_pending, inputs}
 use Rattle.uxn_line.proofs.Common.{AreToCome}
-use Rattle.play_script.specs.declared.script.Event.{Event}
+use Rattle.script_lines.specs.declared.script.Event.{Event}
 use Rattle.vector_loop.specs.PendingInputs.{arguments_given, of_argument}
 
 -- all that the script of a line gives is for the console

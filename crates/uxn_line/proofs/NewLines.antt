@@ -5,8 +5,8 @@ use Rattle.uxn_line.proofs.Common.{slice_get, cases_eq, buffer, ByteList, bytes_
 use Rattle.uxn_line.proofs.Common.{none_turned, RingBefore, InLine, inputs}
 use Rattle.uxn_line.proofs.Common.{Result, Ok, Err}
 use Rattle.std.specs.Prelude.{IfOk}
-use Rattle.play_script.specs.Scripts.{ScriptView}
-use Rattle.play_script.specs.declared.script.Clock.{Clock}
+use Rattle.script_lines.specs.Scripts.{ScriptView}
+use Rattle.script_lines.specs.declared.script.Clock.{Clock}
 use Rattle.uxn_line.proofs.Coming.{all-inputs, inputs-some}
 
 -- nothing was given yet

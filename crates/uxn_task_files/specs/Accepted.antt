@@ -8,7 +8,7 @@ use Rattle.std.specs.Option.{option_map_or, option_transpose}
 use Rattle.std.specs.Str.{bytes_eq}
 use Rattle.debug_commands.specs.declared.command.DebugCommand.{DebugCommand}
 use Rattle.debug_commands.specs.Reading.{commands_of_text}
-use Rattle.play_script.specs.Scripts.{ScriptView, script_of as script_in}
+use Rattle.script_lines.specs.Scripts.{ScriptView, script_of as script_in}
 use Rattle.setup_lines.specs.Setups.{SetupView, setup_of as setup_in}
 use Rattle.tal_listing.specs.Disassembly.{disassembly}
 use Rattle.tal_listing.specs.Listing.{listing_of}

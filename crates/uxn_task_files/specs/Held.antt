@@ -1,7 +1,7 @@
 -- What the code holds of inputs that are accepted, as the definitions see it.
 use Rattle.std.specs.Prelude.{◌≡◌, ℕ, ◌≤◌, List, length, All, Option, option_map}
 use Rattle.std.specs.Global.{Vec}
-use Rattle.play_script.specs.Held.{bytes_in}
+use Rattle.script_lines.specs.Held.{bytes_in}
 use Rattle.tal_assembly.specs.Sources.{SourceView}
 use Rattle.tal_words.specs.declared.name.Label.{Label}
 use Rattle.uxn_io_traits.specs.ByteList.{ByteList}

@@ -2,7 +2,7 @@
 use Rattle.std.specs.Prelude.{ℕ, List, [], ◌∷◌, ◌++◌, codes, decimal}
 use Rattle.tal_assembly.specs.Lines.{message_of}
 use Rattle.tal_symbols.specs.Answers.{symbol_kind_name}
-use Rattle.play_script.specs.Kinds.{script_kind_name}
+use Rattle.script_lines.specs.Kinds.{script_kind_name}
 use Rattle.debug_commands.specs.Kinds.{command_kind_name}
 use Rattle.setup_lines.specs.Kinds.{setup_kind_name}
 use Rattle.uxn_task_files.specs.declared.refusal.Refusal.{Refusal}

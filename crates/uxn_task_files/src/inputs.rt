@@ -6,7 +6,7 @@ ghost use Rattle.uxn_task_files.specs.Inputs.{requested_text, text_of, size_rule
 
 use super::refusal::Refusal;
 use debug_commands::CommandKind;
-use play_script::ScriptKind;
+use script_lines::ScriptKind;
 use setup_lines::SetupKind;
 use std::alloc::Global;
 use tal_assembly::{IncludeKind, SourceFault};

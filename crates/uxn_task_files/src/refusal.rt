@@ -7,7 +7,7 @@ ghost use Rattle.uxn_task_files.specs.Blame.{as_step};
 ghost use Rattle.uxn_task_files.specs.Puts.{Puts};
 
 use debug_commands::CommandKind;
-use play_script::ScriptKind;
+use script_lines::ScriptKind;
 use setup_lines::SetupKind;
 use std::alloc::{AllocError, Global};
 use tal_assembly::SourceFault;

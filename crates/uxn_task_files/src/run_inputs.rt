@@ -11,7 +11,7 @@ use super::refusal::Refusal;
 use super::scripts::accept_script;
 use super::symbols::{accept_symbols, labels_or};
 use debug_commands::DebugCommand;
-use play_script::Script;
+use script_lines::Script;
 use std::alloc::Global;
 use tal_words::Label;
 use uxn_arguments::{DebugTask, RunTask};

@@ -5,7 +5,7 @@ ghost use Rattle.uxn_task_files.specs.Accepted.{script_of, validated_script};
 
 use super::inputs::{InputKind, read_requested};
 use super::refusal::Refusal;
-use play_script::{Script, ScriptStop, read_script};
+use script_lines::{Script, ScriptStop, read_script};
 use std::alloc::Global;
 use uxn_inquiry::Halt;
 use uxn_io_traits::{Bytes, Path, Tree};

@@ -2,7 +2,7 @@
 use Rattle.std.specs.Prelude.{ℕ, List, [], ◌∷◌}
 use Rattle.console_port.specs.Console.{event_byte}
 use Rattle.console_port.specs.declared.EventKind.TheVariants as event_kind
-use Rattle.play_script.specs.Scripts.{ScriptView}
+use Rattle.script_lines.specs.Scripts.{ScriptView}
 use Rattle.uxn_limits.specs.declared.ports.TheConstants.{CONSOLE_TYPE}
 use Rattle.varvara_bus.specs.History.{Store}
 use Rattle.vector_loop.specs.declared.output.Outputs.{Outputs}

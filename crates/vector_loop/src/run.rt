@@ -4,7 +4,7 @@ ghost use Rattle.uxn_limits.specs.declared.limits.TheConstants.{MOST_EVENTS};
 ghost use Rattle.uxn_io_traits.specs.Ended.{RefusesNone};
 ghost use Rattle.uxn_io_traits.specs.Faults.{Ledger};
 ghost use Rattle.uxn_opcodes.specs.Ports.{result_blame};
-ghost use Rattle.play_script.specs.Held.{bytes_in};
+ghost use Rattle.script_lines.specs.Held.{bytes_in};
 ghost use Rattle.varvara_bus.specs.State.{DeviceState, storing};
 ghost use Rattle.varvara_bus.specs.Bus.{
   SameBorrowed,
@@ -34,7 +34,7 @@ use crate::runner::Runner;
 use crate::tally::Tally;
 use crate::watch::{Moment, Watcher};
 use console_port::{EventKind, KIND};
-use play_script::Script;
+use script_lines::Script;
 use uxn_io_traits::{Bytes, Sink, Tree};
 use uxn_opcodes::{Core, Stop};
 use varvara_bus::Bus;

@@ -2,7 +2,7 @@ use Rattle.std.proofs.Common.{◌≡◌, List, [], ◌∷◌, length, false, ref
 use Rattle.std.specs.Prelude.{◌==◌}
 use Rattle.uxn_io_traits.specs.ByteList.{ByteList}
 use Rattle.uxn_limits.specs.declared.ports.TheConstants.{CONSOLE_TYPE}
-use Rattle.play_script.specs.Held.{bytes_in}
+use Rattle.script_lines.specs.Held.{bytes_in}
 use Rattle.vector_loop.specs.Run.{made_ready}
 use Rattle.uxn_line.proofs.Common.{rules}
 use Rattle.uxn_line.proofs.Alone.{rests-alone}

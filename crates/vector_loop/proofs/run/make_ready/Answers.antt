@@ -1,6 +1,6 @@
 use Rattle.vector_loop.proofs.Common.{List, [], false, length, refl, rules, true, ◌∷◌, ◌≡◌}
 use Rattle.std.specs.Prelude.{◌==◌}
-use Rattle.play_script.specs.Held.{bytes_in}
+use Rattle.script_lines.specs.Held.{bytes_in}
 use Rattle.uxn_io_traits.specs.ByteList.{ByteList}
 use Rattle.vector_loop.specs.Run.{made_ready}
 use Rattle.vector_loop.proofs.run.make_ready.Goals as goal
