@@ -1,20 +1,16 @@
 //! Why a call ends before its work is done.
 
 use std::alloc::{AllocError, AllocFailed};
-use thiserror::Error;
 use uxn_io_traits::{Failed, ReadStop};
 
 /// Why a call ended before its work was done.
-#[derive(Debug, Drop, Error)]
+#[derive(Drop)]
 pub enum Halt<R> {
     /// It is refused.
-    #[error("refused")]
     Refused(R),
     /// The tree failed.
-    #[error("the tree failed")]
     TreeFault,
     /// Memory ran out.
-    #[error("out of memory")]
     NoMemory,
 }
 
