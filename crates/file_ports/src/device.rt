@@ -135,11 +135,11 @@ impl FileDevice {
         ensures device { self.new ≡ self.old }
     {
         let count = count_from(at, length);
-        if let Some(path) = self.path {
-            let kind = tree.kind(&path)?;
-            return Ok(put_signs(memory, at, count, kind));
-        }
-        Ok(put_signs(memory, at, count, Kind::Missing))
+        let kind = match self.path {
+            Some(path) => tree.kind(&path)?,
+            None => Kind::Missing,
+        };
+        Ok(put_signs(memory, at, count, kind))
     }
 
     /// Takes the file away, and answers 1, or 0 where none is there. The device does nothing then.
@@ -152,8 +152,7 @@ impl FileDevice {
         match self.path {
             Some(path) => {
                 self.mode = Mode::Idle;
-                let gone = tree.remove(&path)?;
-                Ok(u16::from(gone))
+                Ok(u16::from(tree.remove(&path)?))
             }
             None => Ok(0),
         }

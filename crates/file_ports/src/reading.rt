@@ -30,10 +30,7 @@ fn look<T: Tree>(alloc: Global, tree: &mut T, path: &Path) -> Result<Mode, FileS
     match tree.kind(path)? {
         Kind::Missing => Ok(Mode::Idle),
         Kind::File(_) => Ok(Mode::ReadingFile(0)),
-        Kind::Folder => {
-            let listing = list(alloc, tree, path)?;
-            Ok(Mode::ReadingListing(0, listing))
-        }
+        Kind::Folder => Ok(Mode::ReadingListing(0, list(alloc, tree, path)?)),
     }
 }
 
@@ -44,10 +41,7 @@ fn list<T: Tree>(alloc: Global, tree: &mut T, folder: &Path) -> Result<Listing, 
     ensures tree { TreeLooked (has_failed result) (T.state tree.old) (T.state tree.new) }
 {
     match tree.names(alloc, folder) {
-        Ok(entries) => {
-            let listing = Listing::of(alloc, &entries)?;
-            Ok(listing)
-        }
+        Ok(entries) => Ok(Listing::of(alloc, &entries)?),
         Err(NamesStop::Failed) => Err(FileStop::TreeFault),
         Err(NamesStop::NoMemory) => Err(FileStop::NoMemory),
     }
@@ -67,8 +61,7 @@ pub(crate) fn reading<T: Tree>(
 {
     match mode {
         Mode::Idle | Mode::Writing => look(alloc, tree, path),
-        Mode::ReadingFile(place) => Ok(Mode::ReadingFile(place)),
-        Mode::ReadingListing(place, listing) => Ok(Mode::ReadingListing(place, listing)),
+        Mode::ReadingFile(_) | Mode::ReadingListing(..) => Ok(mode),
     }
 }
 
@@ -90,7 +83,7 @@ pub(crate) fn read_on<T: Tree>(
     ensures tree { TreeLooked (is_err result) (T.state tree.old) (T.state tree.new) }
 {
     match mode {
-        Mode::Idle => Ok((0, Mode::Idle)),
+        Mode::Idle | Mode::Writing => Ok((0, mode)),
         Mode::ReadingFile(place) => {
             let most = most_from(place, count);
             let taken = put_file(tree, path, place, memory, at, most)?;
@@ -104,7 +97,6 @@ pub(crate) fn read_on<T: Tree>(
                 Mode::ReadingListing(place + u64::from(taken), listing),
             ))
         }
-        Mode::Writing => Ok((0, Mode::Writing)),
     }
 }
 

@@ -1,12 +1,13 @@
 -- What one more drawing does to the pictures that a screen represents, to its marks and to what it keeps composed.
-use Rattle.std.proofs.Common.{◌≡◌, ℕ, ◌*◌, ◌<◌, Bool, ◌||◌, List, [], ◌∷◌, length, if◌then◌else◌, unwrap_or, refl, sym, ap, ◌∙◌, subst}
+use Rattle.std.proofs.Common.{◌≡◌, ℕ, zero, suc, ◌+◌, ◌*◌, ◌<◌, Bool, false, ◌||◌, List, [], ◌∷◌, length, replicate, slice_index, if◌then◌else◌, unwrap_or, refl, sym, ap, ◌∙◌, subst}
 use Rattle.std.proofs.lemmas.Bool.{or_parts}
+use Rattle.std.proofs.lemmas.List.{length-replicate}
 use Rattle.screen_layers.specs.declared.control.Layer.{Layer}
 use Rattle.screen_layers.specs.declared.control.Layer.TheVariants.{Background, Foreground}
 use Rattle.screen_layers.specs.Drawings.{Shape, Drawing, painted, paint, same_layer, covers_row, drawn_by_pixel, filled, dotted}
 use Rattle.screen_layers.specs.Control.{fills}
-use Rattle.screen_layers.specs.Layers.{Layers, RepresentsPicture, MarksMore, LayersAreMaintained, Draws, PaintedOver, pixel_at, pixels_of}
-use Rattle.screen_layers.specs.Pictures.{Picture, with_drawings, after_pixel}
+use Rattle.screen_layers.specs.Layers.{Layers, RepresentsPicture, MarksMore, LayersAreMaintained, Draws, PaintedOver, mark_at, pixel_at, pixels_of}
+use Rattle.screen_layers.specs.Pictures.{Picture, new_picture, with_drawings, after_pixel}
 use Rattle.screen_layers.proofs.MarkLemmas.{paint-none, place-off}
 
 -- a screen with other pixels of a layer, and other marks
@@ -78,3 +79,32 @@ pub stands-after : (before after : Layers) (x y control : ℕ) (picture : Pictur
 stands-after before after x y control picture draws stands =
     let same : drawn_by_pixel before.width before.height x y control ≡ drawn_by_pixel picture.width picture.height x y control = rw (stands.width, stands.height) refl in
     stands-more before after (drawn_by_pixel picture.width picture.height x y control) [] picture (rw same at draws) stands
+
+-- a screen of a size whose values are all 0
+abbrev cleared : ℕ → ℕ → List Bool → Layers
+cleared width height marks =
+    let zeros = replicate (height * width) 0 in
+    record { width = width; height = height; background = zeros; foreground = zeros; composed = zeros; marks = marks }
+
+zero-at : (count at : ℕ) → slice_index (replicate count 0) at ≡ 0
+zero-at zero at = refl
+zero-at (suc count) zero = refl
+zero-at (suc count) (suc at) = zero-at count at
+
+pub cleared-kept : (width height : ℕ) (marks : List Bool) → 0 < width → LayersAreMaintained (cleared width height marks)
+cleared-kept width height marks some =
+    let size = length-replicate (height * width) 0 in
+    record { column = some; background = size; foreground = size; composed = size; rows = λ y in_y unmarked x in_x. simp zero-at }
+
+pub cleared-stands : (width height : ℕ) (marks : List Bool) (picture : Picture) → width ≡ picture.width → height ≡ picture.height
+    → ((y : ℕ) → mark_at marks y ≡ false)
+    → RepresentsPicture (cleared width height marks) (record new_picture { width = picture.width; height = picture.height })
+cleared-stands width height marks picture across down none = record {
+  width = across;
+  height = down;
+  pixels = λ layer x y in_x in_y. nothing layer (y * width + x);
+  marks = λ y in_y. none y;
+} where
+  nothing : (layer : Layer) (at : ℕ) → slice_index (pixels_of (cleared width height marks) layer) at ≡ 0
+  nothing Background at = zero-at (height * width) at
+  nothing Foreground at = zero-at (height * width) at

@@ -85,19 +85,12 @@ impl Screen {
         ensures picture { IfOk result (λ screen. RepresentsPicture screen new_picture) }
     {
         let size = first_size();
-        let mut background = Plane::new(alloc)?;
-        let mut foreground = Plane::new(alloc)?;
-        let mut composed = Plane::new(alloc)?;
-        let marks = Marks::new(alloc)?;
-        background.clear(size);
-        foreground.clear(size);
-        composed.clear(size);
         Ok(Screen {
             size,
-            background,
-            foreground,
-            composed,
-            marks,
+            background: Plane::new(alloc, size)?,
+            foreground: Plane::new(alloc, size)?,
+            composed: Plane::new(alloc, size)?,
+            marks: Marks::new(alloc)?,
         })
     }
 

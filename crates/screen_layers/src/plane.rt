@@ -49,13 +49,16 @@ impl Model for Plane {
 }
 
 impl Plane {
-    /// A plane without rows.
-    pub fn new(alloc: Global) -> Result<Plane, AllocError>
-        ensures { IfOk result (λ plane. length plane ≡ 0) }
+    /// A plane of a size: all values are 0.
+    pub fn new(alloc: Global, size: Size) -> Result<Plane, AllocError>
+        requires { (size.width ≤ 2047) × (size.height ≤ 2047) }
+        ensures { IfOk result (λ plane. plane ≡ replicate (size.height * size.width) 0) }
     {
         let mut pixels = Vec::with_capacity(alloc, LEAD + PIXELS)?;
         pixels.resize(LEAD, 0)?;
-        Ok(Plane { pixels })
+        let mut plane = Plane { pixels };
+        plane.clear(size);
+        Ok(plane)
     }
 
     /// Takes a size: all values are 0.

@@ -26,3 +26,18 @@ returns-in_default-clause-ends c = λ age plays.
     let ended = of_note (λ note t. note_has_ended note t ≡ true) c.loop-place.self _ _ c.in_default.ensures.none done.plays in
     sym (subst (λ n. note_is_over c.args.self.now.start n ≡ true) (omega (arith, c.loop-place-test.true))
     (over-far c.args.self.now.start (age + c.loop-place.place) (735 - c.loop-place.place) (omega (arith, c.loop-place-test.true)) ended))
+
+pub returns-clause-adds : goal.returns-clause-adds
+returns-clause-adds c = λ age plays.
+    let whole : c.loop-place.place ≡ 735 = omega arith in
+    rw whole at (c.loop-place.invariant age plays).adds
+
+pub returns-clause-ends : goal.returns-clause-ends
+returns-clause-ends c = λ age plays.
+    let whole : c.loop-place.place ≡ 735 = omega arith in
+    sym (rw whole at (c.loop-place.invariant age plays).plays.goes_on)
+
+pub returns-clause-plays : goal.returns-clause-plays
+returns-clause-plays c = λ _ age plays.
+    let whole : c.loop-place.place ≡ 735 = omega arith in
+    rw whole at (c.loop-place.invariant age plays).plays

@@ -1,4 +1,4 @@
-use Rattle.std.proofs.Common.{arith}
+use Rattle.std.proofs.Common.{length, ap, ◌∙◌, arith}
 use Rattle.std.proofs.lemmas.List.{take_at}
 use Rattle.screen_layers.proofs.MarkLemmas.{tile-row}
 use Rattle.screen_layers.proofs.marks.Marks.set_tile.Goals as goal
@@ -11,3 +11,8 @@ returns c = λ bytes flip_x flip_y blend y in_y.
       tile-row c.args.size.width c.args.place.x c.args.place.y bytes flip_x flip_y blend y c.requires.width (omega arith) c.requires.column,
     )
     (rw c.deref_mut.ensures.value at (c.mark_tile.ensures.marks y in_y))
+
+pub invariant_of-self : goal.invariant_of-self
+invariant_of-self c =
+    ap length (take_at c.mark_tile.new.rows _ c.self.inside.rows.len (omega (arith, c.mark_tile.ensures.length, c.deref_mut.ensures.len, c.self.invariant)))
+    ∙ c.mark_tile.ensures.length
