@@ -11,7 +11,7 @@ use Rattle.tal_labels.proofs.CallerLemmas.{placed_words, length-placed_of}
 use Rattle.tal_labels.proofs.KeptLemmas.{next_ones}
 use Rattle.tal_labels.proofs.NextWord.{none_named, open_are, ends_below, IsNextWord, given_next}
 use Rattle.tal_rom.proofs.Checking.{some_bytes}
-use Rattle.tal_rom.proofs.Holding.{all_still, put_more, holds_more}
+use Rattle.tal_rom.proofs.Holding.{all_still, holds_put}
 
 -- a word that defines a label has no bytes, and one that is no label defines none
 definition : (shape : Form) (text : List ℕ) → is_definition shape ≡ true
@@ -144,7 +144,6 @@ module _ (source : List ℕ) (words : List Expanded) (placed : PlacedWord) (give
       let still : closes (text source placed) ≡ false = grind (arith, closing_form source placed (words, given)) in
       let fresh = none_named (labels_of source words) name (ap (is_defined (labels_of source words)) named ∙ next.well.new) in
       let labels = labels_of source words ++ record { name = name; address = placed.address } ∷ [] in
-      let put = put_more labels placed.form (text source placed) placed.address _ new new.memory marks.1 (rw marks.0 refl) in
       let comes = comes_next labels placed.form (text source placed) refl refl in
       rw (model_next false false labels bare still (rw (← named) refl))
-      (holds_more _ placed placed.form (text source placed) placed.address comes false new new put (ok fresh so))
+      (holds_put _ placed placed.form (text source placed) placed.address comes new new.memory marks.1 (rw marks.0 refl) (ok fresh so))

@@ -1,14 +1,11 @@
 -- The loop over the words with their addresses, which looks for the first fault of their references.
 use Rattle.std.specs.Prelude.{slice_get}
-use Rattle.tal_rom.proofs.Common.{◌≡◌, ℕ, ◌+◌, ◌<◌, ◌≤◌, List, [], ◌∷◌, ◌++◌, Ok, length, take, drop, get_or, map, Option, None, refl, sym, ◌∙◌}
-use Rattle.tal_rom.proofs.Common.{ap, arith, take_more, map-append, Form, Pad, Refer, Rune, Label, each, expanded_text}
-use Rattle.tal_rom.proofs.Common.{phase_fault, fault_at, form, size, encoded_reference, first_scope, each-end, no_word, fault-here, fault-later, PlacedWord}
-use Rattle.tal_rom.proofs.Common.{FaultKind, Some, Bool, true, false}
-use Rattle.tal_words.specs.declared.fault.FaultKind.TheVariants.{TooFar}
-use Rattle.tal_words.specs.Faults.{when}
-use Rattle.tal_words.specs.FirstFault.{are_in_order}
+use Rattle.tal_rom.proofs.Common.{◌≡◌, ℕ, ◌+◌, ◌<◌, ◌≤◌, List, [], ◌∷◌, ◌++◌, Ok, length, take, drop, get_or, map, Option, None, refl, sym, ◌∙◌, ap}
+use Rattle.tal_rom.proofs.Common.{arith, take_more, map-append, Form, Pad, Refer, Rune, Label, each, expanded_text, phase_fault, fault_at, form, size}
+use Rattle.tal_rom.proofs.Common.{encoded_reference, first_scope, each-end, no_word, fault-here, fault-later, PlacedWord, FaultKind, Some, true}
 use Rattle.tal_rom.proofs.Common.{next_scope, scope_after, LieApart, scope_after-append, HasAddress, target_in, reference_kinds, scope_behind}
 use Rattle.tal_rom.proofs.Common.{target_of, validated_reference, reference_fault}
+use Rattle.tal_words.specs.FirstFault.{are_in_order}
 
 -- what a read past the end gives
 abbrev pub no_placed_word : PlacedWord
@@ -75,11 +72,5 @@ pub all_checked : (source : List ℕ) (labels : List Label) (words : List Placed
 all_checked source labels words k scope past so = sym so.sound ∙ ap phase_fault (each-end (validated_reference source labels) words k past)
 
 -- what is wrong with a reference stands in the order of its kinds
-one_in_order : (far : Bool) → are_in_order (when far TooFar) ≡ true
-one_in_order true = refl
-one_in_order false = refl
-
 pub reference_in_order : (form : Form) (address : ℕ) (target : Option ℕ) → are_in_order (reference_kinds form address target) ≡ true
-reference_in_order (Refer rune) address None = refl
-reference_in_order (Refer rune) address (Some target) = one_in_order _
-reference_in_order _ address target = refl
+reference_in_order form address target = grind arith

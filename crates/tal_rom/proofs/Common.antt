@@ -1,14 +1,14 @@
 -- The names that most proofs of this crate cite, passed on from one place. Declares nothing.
 pub use Rattle.std.proofs.Common.{◌≡◌, ℕ, ◌+◌, true, false, not, List, [], ◌∷◌, ◌++◌, length, map, Option, None, refl, ap, arith, sym, ◌∙◌}
 pub use Rattle.std.proofs.Common.{append-nil, ◌<◌, ◌≤◌, Bool, ◌&&◌, get_or, Some, cond, find, take, length-take, Ok, drop, ◌-◌, rules, ◌*◌, replicate}
-pub use Rattle.std.proofs.Common.{◌⊎◌, inl, inr, length-append, Err, ◌≢◌, suc, ◌||◌, zero}
+pub use Rattle.std.proofs.Common.{inl, inr, length-append, Err, ◌≢◌, suc, ◌||◌, zero}
 pub use Rattle.std.specs.Prelude.{slice_set, if◌then◌else◌, fold, unwrap_or, min, is_some}
 pub use Rattle.std.proofs.Math.Seq.{get_or-append_right}
 pub use Rattle.std.proofs.lemmas.Bool.{false_from_ne_true, ne_eqb}
 pub use Rattle.std.proofs.lemmas.Bool.Decides.{nat_tests, Decides-eqb}
 pub use Rattle.std.proofs.lemmas.List.{map-append, length-set, get_or-set_other, take_more, set_past, length-map, get_or_append_left}
 pub use Rattle.std.proofs.lemmas.List.{length-replicate, replicate-append-replicate, get_or_past, get_or-replicate, ext_get_or, get_or-drop}
-pub use Rattle.std.proofs.lemmas.List.{length-drop, drop_min, get_or-take, take-append-drop}
+pub use Rattle.std.proofs.lemmas.List.{length-drop, drop_min, get_or-take}
 pub use Rattle.std.proofs.lemmas.List.Folds.{find-append, list_any-append}
 pub use Rattle.std.proofs.lemmas.List.FromFn.{get_or-map-range_with_len, length-map-range_with_len}
 pub use Rattle.std.proofs.lemmas.List.Sums.{count_by-le-length, length-filter}
@@ -16,7 +16,6 @@ pub use Rattle.std.proofs.lemmas.Result.{err_from_is_err_and, IfOk-weaker, on_ok
 pub use Rattle.std.proofs.lemmas.Slice.Eq.{slice_eq-Decides, bytes_eq-Decides}
 pub use Rattle.std.specs.Global.{Vec}
 pub use Rattle.std.specs.List.{filter, list_any, range_with_len, AllByRecursion, list_all, flat_map}
-pub use Rattle.std.specs.Option.{option_copied}
 pub use Rattle.std.specs.Str.{bytes_eq}
 pub use Rattle.tal_labels.proofs.CallerLemmas.{place_fault-none, lie_apart}
 pub use Rattle.tal_labels.proofs.IndexLemmas.{vec_eq, none_since}

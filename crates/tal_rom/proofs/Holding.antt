@@ -104,6 +104,12 @@ module _ (model : PatchModel) (placed : PlacedWord) (form : Form) (text : List �
             (sym (holes_more model.source placed model.words opening model.openers next.open_before));
       }
 
+  -- a word that is no reference
+  pub holds_put : (old : Patch) (memory : Vec ℕ) → is_reference form ≡ false
+      → memory.items ≡ overlaid old.memory.items address (encoded form text 0 0)
+      → PatchHolds model old → PatchHolds (with_word false placed model) (record old { memory = memory })
+  holds_put old memory bare laid = holds_more false old (record old { memory = memory }) (search rules)
+
   -- how many wait stays a number of 32 bits
   pub waiting_small : (patch : Patch) → PatchHolds model patch → patch.waiting < 4294967295
   waiting_small patch so =
@@ -116,13 +122,6 @@ few_are form text other e = grind arith
 
 pub no_more : (b : Bool) (xs : List Hole) → xs ≡ xs ++ cond b [] []
 no_more b xs = grind (arith, append-nil)
-
--- a word that is no reference
-pub put_more : (labels : List Label) (form : Form) (text : List ℕ) (address : ℕ) (full : List ℕ) (old : Patch) (memory : Vec ℕ)
-    → is_reference form ≡ false
-    → memory.items ≡ overlaid old.memory.items address (encoded form text 0 0)
-    → IsMore labels (next_word labels form text address full) full false old (record old { memory = memory })
-put_more labels form text address full old memory bare laid = search rules
 
 bytes_eq-swap : (a b : List ℕ) → bytes_eq a b ≡ bytes_eq b a
 bytes_eq-swap a b = grind (arith, (bytes_eq-Decides a b).0, (bytes_eq-Decides b a).0)

@@ -40,7 +40,6 @@ length-overlaid memory at [] = refl
 length-overlaid memory at (byte ∷ bytes) = length-overlaid (slice_set memory at byte) (at + 1) bytes ∙ length-set memory at byte
 
 -- what is read at an index is a byte that was laid there, or what stood there
-
 one_laid : (memory : List ℕ) (at byte : ℕ) (bytes : List ℕ) (i : ℕ) → i < length memory
     → read_over i (record { address = at + 1; bytes = bytes }) (get_or (slice_set memory at byte) i 0)
     ≡ read_over i (record { address = at; bytes = byte ∷ bytes }) (get_or memory i 0)

@@ -1,8 +1,7 @@
 -- Bytes without the zeros at their end, zeros, and what stands in memory from an index on.
 use Rattle.tal_rom.proofs.Common.{◌≡◌, ◌≢◌, ℕ, suc, ◌-◌, ◌<◌, ◌≤◌, List, [], ◌∷◌, length, take, get_or, map, refl, sym, ◌∙◌, ap, arith, length-take}
 use Rattle.tal_rom.proofs.Common.{ne_eqb, get_or_past, get_or-take, get_or-map-range_with_len, length-map-range_with_len, range_with_len, trimmed}
-use Rattle.tal_rom.proofs.Common.{before_trimmed, zero, ◌++◌, drop, replicate, get_or-replicate, length-replicate, take-append-drop, ◌+◌, ext_get_or}
-use Rattle.tal_rom.proofs.Common.{get_or-drop, length-drop}
+use Rattle.tal_rom.proofs.Common.{before_trimmed, drop, replicate, get_or-replicate, length-replicate, ◌+◌, ext_get_or, get_or-drop, length-drop}
 
 -- lists that read the same, with zeros past their ends, are the same without the zeros at their ends
 pub trimmed-same : (xs ys : List ℕ) → ((i : ℕ) → get_or xs i 0 ≡ get_or ys i 0) → trimmed xs ≡ trimmed ys
@@ -42,19 +41,11 @@ trimmed-image f n xs short each =
 pub zeros_read : (count at : ℕ) → get_or (replicate {A = ℕ} count 0) at 0 ≡ 0
 zeros_read count at = grind (arith, get_or-replicate, get_or_past, length-replicate)
 
-trimmed-zeros : (count : ℕ) → trimmed (replicate count 0) ≡ []
-unfolding trimmed
-trimmed-zeros zero = refl
-trimmed-zeros (suc count) = ap (before_trimmed 0) (trimmed-zeros count)
-
-trimmed-before : (bytes : List ℕ) (count : ℕ) → trimmed (bytes ++ replicate count 0) ≡ trimmed bytes
-unfolding trimmed
-trimmed-before [] count = trimmed-zeros count
-trimmed-before (byte ∷ bytes) count = ap (before_trimmed byte) (trimmed-before bytes count)
-
 -- bytes of which zeros at the end are taken away are trimmed to the same
 pub stripped : (bytes : List ℕ) (n count : ℕ) → drop n bytes ≡ replicate count 0 → trimmed (take n bytes) ≡ trimmed bytes
-stripped bytes n count e = grind (arith, trimmed-before (take n bytes) count, take-append-drop n bytes)
+stripped bytes n count e =
+    trimmed-same (take n bytes) bytes (λ i. read_past bytes n i (λ k from within.
+    grind (arith, get_or-drop n bytes (k - n) 0, zeros_read count (k - n))))
 
 -- what stands behind so many bytes, as the list of a function
 pub behind_is : (f : ℕ → ℕ) (start count : ℕ) (memory : List ℕ) → length memory ≡ start + count

@@ -1,8 +1,8 @@
 //! Full names, with their addresses or with the references that wait for them.
 
-ghost use Rattle.std.specs.Prelude.{◌≡◌, ◌∷◌, [], ◌++◌, None, Some, ℕ, List, OnOk, OnErr, IfOk, if◌then◌else◌, is_some, true};
+ghost use Rattle.std.specs.Prelude.{◌≡◌, ◌∷◌, [], ◌++◌, None, Some, ℕ, List, OnOk, OnErr, IfOk, if◌then◌else◌};
 ghost use Rattle.std.specs.Str.{bytes_eq};
-ghost use Rattle.tal_rom.specs.Holes.{found_in, known_in, wanted_in};
+ghost use Rattle.tal_rom.specs.Holes.{known_in, wanted_in};
 
 use crate::hole::{Hole, Named};
 use indexmap::IndexMap;
@@ -43,34 +43,16 @@ impl Names {
             ≡ wanted_in self.old other ++ (if bytes_eq other name.items then hole ∷ [] else [])) }
         ensures err { OnErr result ((other : List ℕ) → wanted_in self.new other ≡ wanted_in self.old other) }
     {
-        if self.entries.get(name.as_slice()).is_some() {
-            return self.want_too(name.as_slice(), hole);
+        if let Some(named) = self.entries.get_mut(name.as_slice()) {
+            named.holes.push(hole)?;
+            return Ok(());
         }
-        let holes = vec![in alloc; hole]?;
         let named = Named {
             address: None,
-            holes,
+            holes: vec![in alloc; hole]?,
         };
         self.entries.insert(name, named)?;
         Ok(())
-    }
-
-    /// Adds a reference to those that wait for a full name.
-    fn want_too(&mut self, name: &[u8], hole: Hole) -> Result<(), AllocError>
-        requires unknown { known_in self.old name.now ≡ None }
-        requires there { is_some (found_in self.old name.now) ≡ true }
-        ensures known { (other : List ℕ) → known_in self.new other ≡ known_in self.old other }
-        ensures ok { OnOk result ((other : List ℕ) → wanted_in self.new other
-            ≡ wanted_in self.old other ++ (if bytes_eq other name.now then hole ∷ [] else [])) }
-        ensures err { OnErr result ((other : List ℕ) → wanted_in self.new other ≡ wanted_in self.old other) }
-    {
-        match self.entries.get_mut(name) {
-            Some(named) => {
-                named.holes.push(hole)?;
-                Ok(())
-            }
-            None => unreachable!(),
-        }
     }
 
     /// Defines a full name, and gives the references that waited for it.
