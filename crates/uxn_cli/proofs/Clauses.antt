@@ -277,7 +277,7 @@ plays-too nodes run debug work e =
         debugging = given_debugging given.value debug;
         debugs = ap Ok (sym (same_ok _ work free.rest) ∙ ap (λ (p : Plan). p.work) (sym is));
         plays = answer-more nodes (plan_of (tasks.Run run None)) _ (run_plan run None given.value)
-            (answer-more nodes (run_of run None) _ _ (plays-given nodes run debug given.value given.first))
+            (answer-more nodes (run_of run None) _ _ (plays-given nodes run debug given.value given.first).1)
             ∙ answer-more nodes (free_outputs given.value.program.included written) _ tt
             (subst (λ (p : Plan). answer_in nodes (free_outputs p.included written) ≡ Ok (tt {0})) (sym is) last);
       },

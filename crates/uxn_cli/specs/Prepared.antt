@@ -12,7 +12,7 @@ use Rattle.uxn_arguments.specs.declared.task.DebugTask.{DebugTask}
 use Rattle.uxn_arguments.specs.declared.task.RunTask.{RunTask}
 use Rattle.uxn_arguments.specs.declared.task.Task.{Task}
 use Rattle.uxn_task_files.specs.Accepted.{Loaded}
-use Rattle.uxn_task_files.specs.Held.{model_of_debug_labels, model_of_program}
+use Rattle.uxn_task_files.specs.Held.{model_of_program}
 use Rattle.uxn_task_files.specs.Outputs.{paths_of}
 use Rattle.uxn_line.specs.Streams.{clock_by}
 use Rattle.uxn_cli.specs.declared.playing.Prepared.{Prepared}
@@ -29,7 +29,7 @@ abbrev pub AreNew : Devices → ScriptView → Option (List ℕ) → Type 0
 AreNew devices script root = (part : Nodes) (parent : Bool) → DevicesRepresent devices (new_state (clock_by script.clock) root part parent)
 
 abbrev pub session_debugging : Loaded → Session → Debugging
-session_debugging program session = debugging session.task session.commands.items (model_of_debug_labels program session.given)
+session_debugging program session = debugging session.task session.commands.items program.labels
 
 abbrev pub prepared_debugging : Prepared → Option Debugging
 prepared_debugging prepared = option_map (λ session. session_debugging (model_of_program prepared.program) session.value) prepared.session

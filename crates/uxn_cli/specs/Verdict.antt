@@ -7,7 +7,7 @@ use Rattle.tal_assembly.specs.Sources.{own_answer}
 use Rattle.uxn_inquiry.specs.Inquiry.{Inquiry, Answer, and_then, result_as}
 use Rattle.uxn_task_files.specs.declared.refusal.Refusal.{Refusal}
 use Rattle.uxn_task_files.specs.declared.refusal.Refusal.TheVariants.{Faulty, OtherEvents}
-use Rattle.uxn_task_files.specs.Accepted.{validated_script, debug_labels, GivenInputs, run_of, files_of}
+use Rattle.uxn_task_files.specs.Accepted.{validated_script, GivenInputs, run_of, files_of}
 use Rattle.uxn_task_files.specs.Accepted.{disassembly_of, Machines, machines_of, free_outputs}
 use Rattle.uxn_arguments.specs.Values.{then_steps}
 use Rattle.uxn_task_files.specs.World.{Text}
@@ -23,7 +23,7 @@ use Rattle.uxn_cli.specs.Workload.{workload_text}
 
 -- a run of a ROM with a script, which a debugger may watch
 abbrev pub given_debugging : GivenInputs → DebugTask → Debugging
-given_debugging given debug = debugging debug given.commands (debug_labels given.labels given.program)
+given_debugging given debug = debugging debug given.commands given.program.labels
 
 abbrev pub run_job : RunTask → Option DebugTask → GivenInputs → RunJob
 run_job run debug given =

@@ -1,6 +1,7 @@
 //! The debugger of a run, and the log that it writes.
 ghost use Rattle.uxn_io_traits.specs.Ended.{RefusesNone};
 ghost use Rattle.std.specs.Prelude.{◌≡◌, ◌≤◌, List, None, Some, IfSome, ◌<◌, Option, IsSome};
+ghost use Rattle.tal_words.specs.declared.name.Label.{Label};
 ghost use Rattle.uxn_cli.specs.Outside.{SameHost, outside_of};
 ghost use Rattle.uxn_debugger.specs.Watching.{held_by, new_watching};
 ghost use Rattle.uxn_cli.specs.RunJob.{debugging};
@@ -12,7 +13,6 @@ use super::host::Host;
 use super::machine::{Machine, core_known};
 use super::running::{RunEnd, run_made, write_text};
 use debug_commands::DebugCommand;
-use tal_words::Label;
 use uxn_arguments::{DebugTask, RunTask};
 use uxn_debugger::{Debugger, the_log_is_that_of_the_run};
 use uxn_io_traits::{Sink, Tree};
@@ -26,8 +26,6 @@ pub struct Session {
     pub task: DebugTask,
     /// The commands.
     pub commands: Vec<DebugCommand>,
-    /// The labels of a symbol file, where one is given.
-    pub given: Option<Vec<Label>>,
     /// What keeps the moments that commands go back to.
     pub undo: Undo,
 }

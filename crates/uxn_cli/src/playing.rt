@@ -13,7 +13,7 @@ ghost use Rattle.uxn_cli.specs.RunJob.{debugging};
 ghost use Rattle.uxn_cli.specs.Outside.{DoesWork, SameHost, outside_of, state_of_host};
 ghost use Rattle.uxn_cli.specs.Prepared.{IsReadyRun, AreNew, session_debugging, prepared_debugging, prepared_plan};
 ghost use Rattle.uxn_inquiry.specs.Inquires.{Inquires};
-ghost use Rattle.uxn_task_files.specs.Held.{model_of_inputs, model_of_debug_labels, model_of_program};
+ghost use Rattle.uxn_task_files.specs.Held.{model_of_inputs, model_of_program};
 ghost use Rattle.uxn_cli.specs.RunsFromRoot.{RunsFromRoot, RunFiles, task_trace, logged_changes};
 
 use super::debugging::{Session, debug_made};
@@ -22,14 +22,13 @@ use super::machine::{Machine, new_machine};
 use super::running::{RunEnd, run_made};
 use debug_commands::DebugCommand;
 use std::alloc::{AllocError, Global};
-use tal_words::Label;
 use uxn_arguments::{DebugTask, RunTask, run_outputs};
 use uxn_debugger::Debugger;
 use uxn_inquiry::Halt as InquiryHalt;
 use uxn_io_traits::{Sink, Tree};
 use uxn_opcodes::Stop;
 use uxn_task_files::{
-    Halt, Output, Program, Refusal, RunInputs, empty_outputs, labels_of, make_outputs, read_run,
+    Halt, Output, Program, Refusal, RunInputs, empty_outputs, make_outputs, read_run,
 };
 use uxn_undo::Undo;
 use vector_loop::NoWatch;
@@ -52,10 +51,9 @@ fn open_session(
     alloc: Global,
     debug: &Option<DebugTask>,
     commands: Vec<DebugCommand>,
-    given: Option<Vec<Label>>,
 ) -> Result<Option<Box<Session>>, AllocError>
     ensures debugger { IfOk result (λ opened. (program : Loaded) → option_map (λ session. session_debugging program session.value) opened
-        ≡ option_map (λ task. debugging task commands.items (model_of_debug_labels program given)) debug.now) }
+        ≡ option_map (λ task. debugging task commands.items program.labels) debug.now) }
     ensures undo { IfOk result (λ opened. IfSome opened (λ session. session.value.undo ≡ [])) }
 {
     let Some(task) = debug else {
@@ -65,7 +63,6 @@ fn open_session(
     let session = Session {
         task: *task,
         commands,
-        given,
         undo,
     };
     let boxed = Box::new(alloc, session)?;
@@ -97,12 +94,11 @@ fn ready(
 {
     let RunInputs {
         program,
-        given,
         script,
         commands,
     } = inputs;
     let machine = new_machine(alloc, run.root, program.rom.as_slice(), script)?;
-    let session = open_session(alloc, debug, commands, given)?;
+    let session = open_session(alloc, debug, commands)?;
     let outputs = new_outputs(alloc, run, debug)?;
     Ok(Prepared {
         machine,
@@ -151,11 +147,9 @@ fn run_session<T: Tree, O: Sink, E: Sink>(
     let Session {
         task,
         commands,
-        given,
         undo,
     } = Box::into_inner(session);
-    let labels = labels_of(program, &given);
-    let mut debugger = Debugger::new(alloc, commands, labels, undo);
+    let mut debugger = Debugger::new(alloc, commands, &program.labels, undo);
     debug_made(run, &task, machine, &mut debugger, host)
 }
 

@@ -89,25 +89,24 @@ machine_of path = and_then (source_of path) (λ source. Answer (Ok (rom_of sourc
 
 -- ---- the inputs of each command, in the order of work
 
--- what a run is given: its program, the labels of a symbol file where one is given, its script, and the commands of a debugger
+-- what a run is given: its program, its script, and the commands of a debugger
 pub record GivenInputs : Type 0 where
   pub program : Loaded
-  pub labels : Option (List Label)
   pub script : ScriptView
   pub commands : List DebugCommand
 
--- the labels of a debugger: those of the symbol file, else those of the source
-abbrev pub debug_labels : Option (List Label) → Loaded → List Label
-debug_labels given program = unwrap_or given program.labels
+-- a program with the labels of a symbol file in place of its own, where one is given
+abbrev pub labelled : Option (List Label) → Loaded → Loaded
+labelled given program = record program { labels = unwrap_or given program.labels }
 
 -- `play`, and `debug` with a debugger
 unfoldable pub run_of : RunTask → Option DebugTask → Inquiry (Result GivenInputs Refusal)
 run_of run debug =
     and_then (program_of run.rom run.file) (λ program.
-    and_then (symbols_of (option_and_then (λ debug. debug.symbols) debug)) (λ labels.
+    and_then (symbols_of (option_and_then (λ debug. debug.symbols) debug)) (λ given.
     and_then (script_of run.script) (λ script.
-    and_then (commands_of (debug_labels labels program) (option_map (λ debug. debug.commands) debug)) (λ commands.
-    Answer (Ok (record { program = program; labels = labels; script = script; commands = commands }))))))
+    and_then (commands_of (labelled given program).labels (option_map (λ debug. debug.commands) debug)) (λ commands.
+    Answer (Ok (record { program = labelled given program; script = script; commands = commands }))))))
 
 -- `asm`: a source's ROM, symbols and listing, in the files that are requested; with the files that it includes
 abbrev pub program_in : List ℕ → Program

@@ -1,16 +1,14 @@
 -- What the code holds of inputs that are accepted, as the definitions see it.
-use Rattle.std.specs.Prelude.{◌≡◌, ℕ, ◌≤◌, List, length, All, Option, option_map}
-use Rattle.std.specs.Global.{Vec}
+use Rattle.std.specs.Prelude.{◌≡◌, ℕ, ◌≤◌, List, length, All}
 use Rattle.script_lines.specs.Held.{bytes_in}
 use Rattle.tal_assembly.specs.Sources.{SourceView}
-use Rattle.tal_words.specs.declared.name.Label.{Label}
 use Rattle.uxn_io_traits.specs.ByteList.{ByteList}
 use Rattle.uxn_memory.specs.Bytes.{largest_rom}
 use Rattle.uxn_task_files.specs.declared.assembling.Written.{Written}
 use Rattle.uxn_task_files.specs.declared.machines.LineInputs.{LineInputs}
 use Rattle.uxn_task_files.specs.declared.program.Program.{Program}
 use Rattle.uxn_task_files.specs.declared.run_inputs.RunInputs.{RunInputs}
-use Rattle.uxn_task_files.specs.Accepted.{Loaded, debug_labels, GivenInputs, SourceFiles, Machines}
+use Rattle.uxn_task_files.specs.Accepted.{Loaded, GivenInputs, SourceFiles, Machines}
 use Rattle.uxn_task_files.specs.Outputs.{observed_texts}
 
 -- a program that was loaded, and what is loaded of a source
@@ -20,18 +18,10 @@ model_of_program program = record { rom = program.rom.list; labels = program.lab
 abbrev pub model_of_source : SourceView → Loaded
 model_of_source source = record { rom = source.assembly.rom; labels = source.assembly.labels; included = source.paths }
 
--- labels that a symbol file gave, and the labels of a debugger: those, else those of the source
-abbrev pub model_of_labels : Option (Vec Label) → Option (List Label)
-model_of_labels given = option_map (λ (labels : Vec Label). labels.items) given
-
-abbrev pub model_of_debug_labels : Loaded → Option (Vec Label) → List Label
-model_of_debug_labels program given = debug_labels (model_of_labels given) program
-
 -- all that a run is given
 abbrev pub model_of_inputs : RunInputs → GivenInputs
 model_of_inputs inputs = record {
   program = model_of_program inputs.program;
-  labels = model_of_labels inputs.given;
   script = inputs.script;
   commands = inputs.commands.items;
 }

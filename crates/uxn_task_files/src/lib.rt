@@ -26,6 +26,6 @@ pub use outputs::Output;
 pub use printing::print;
 pub use program::Program;
 pub use refusal::{Halt, Refusal};
-pub use run_inputs::{RunInputs, labels_of, read_run};
+pub use run_inputs::{RunInputs, read_run};
 pub use scripts::validate_script;
 pub use tasks::request;

@@ -19,10 +19,26 @@ use uxn_io_traits::{Bytes, Path, Tree};
 pub struct Program {
     /// The ROM.
     pub rom: Bytes,
-    /// The labels of its source; a ROM file has none.
+    /// The labels of its source, or of a symbol file; a ROM file has none.
     pub labels: Vec<Label>,
     /// The files that its source includes; a ROM file has none.
     pub included: Vec<Path>,
+}
+
+impl Program {
+    ghost use Rattle.std.specs.Prelude.{◌≡◌, option_map};
+    ghost use Rattle.uxn_task_files.specs.Accepted.{labelled};
+    ghost use Rattle.uxn_task_files.specs.Held.{model_of_program};
+
+    /// The program with the labels of a symbol file in place of its own, where one is given.
+    pub(crate) fn labelled(self, given: Option<Vec<Label>>) -> Program
+        ensures { model_of_program result ≡ labelled (option_map (λ labels. labels.items) given) (model_of_program self) }
+    {
+        Program {
+            labels: given.unwrap_or(self.labels),
+            ..self
+        }
+    }
 }
 
 /// A source is not needed once it is assembled.

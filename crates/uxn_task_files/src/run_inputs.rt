@@ -3,17 +3,16 @@ ghost use Rattle.std.specs.Prelude.{◌≡◌, ◌≤◌, length, option_and_the
 ghost use Rattle.uxn_memory.specs.Bytes.{largest_rom};
 ghost use Rattle.uxn_inquiry.specs.Inquires.{Inquires};
 ghost use Rattle.uxn_task_files.specs.Accepted.{run_of};
-ghost use Rattle.uxn_task_files.specs.Held.{model_of_debug_labels, model_of_inputs, model_of_program};
+ghost use Rattle.uxn_task_files.specs.Held.{model_of_inputs, model_of_program};
 
 use super::commands::accept_commands;
 use super::program::{Program, accept_program};
 use super::refusal::Refusal;
 use super::scripts::accept_script;
-use super::symbols::{accept_symbols, labels_or};
+use super::symbols::accept_symbols;
 use debug_commands::DebugCommand;
 use script_lines::Script;
 use std::alloc::Global;
-use tal_words::Label;
 use uxn_arguments::{DebugTask, RunTask};
 use uxn_inquiry::Halt;
 use uxn_io_traits::{Path, Tree};
@@ -41,10 +40,8 @@ fn commands_input(debug: &Option<DebugTask>) -> Option<Path>
 /// What a run is given, once all of it is accepted.
 #[derive(Drop)]
 pub struct RunInputs {
-    /// The program.
+    /// The program, with the labels of a symbol file where one is given.
     pub program: Program,
-    /// The labels of a symbol file, where one is given.
-    pub given: Option<Vec<Label>>,
     /// The script.
     pub script: Script,
     /// The commands of a debugger.
@@ -63,20 +60,12 @@ pub fn read_run<T: Tree>(
 {
     let program = accept_program(alloc, run.rom, &run.file, tree)?;
     let given = accept_symbols(alloc, &symbols_input(debug), tree)?;
+    let program = program.labelled(given);
     let script = accept_script(alloc, &run.script, tree)?;
-    let labels = labels_of(&program, &given);
-    let commands = accept_commands(alloc, &commands_input(debug), labels, tree)?;
+    let commands = accept_commands(alloc, &commands_input(debug), &program.labels, tree)?;
     Ok(RunInputs {
         program,
-        given,
         script,
         commands,
     })
-}
-
-/// The labels that a log names: those of a symbol file, else those of the source.
-pub fn labels_of<'a>(program: &'a Program, given: &'a Option<Vec<Label>>) -> &'a [Label]
-    ensures { result.now ≡ model_of_debug_labels (model_of_program program.now) given.now }
-{
-    labels_or(given, &program.labels)
 }

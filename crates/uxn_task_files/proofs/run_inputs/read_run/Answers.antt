@@ -1,4 +1,5 @@
-use Rattle.uxn_task_files.proofs.Common.{rules, refl}
+use Rattle.uxn_task_files.proofs.Common.{rules, refl, ap, ◌∙◌}
+use Rattle.uxn_task_files.specs.Accepted.{Loaded}
 unfoldable use Rattle.uxn_task_files.proofs.Common.{run_of}
 use Rattle.uxn_task_files.proofs.StepLemmas.{step-stop, step-more, step-last}
 use Rattle.uxn_task_files.proofs.run_inputs.read_run.Goals as goal
@@ -24,11 +25,11 @@ unfolding run_of
 returns-in_err-commands-clause-reads g c =
     step-more _ _ _ _ _ _ _ _ _ c.in_ok-program.ensures.loads (step-more _ _ _ _ _ _ _ _ _ (rw c.symbols_input.ensures at c.in_ok-given.ensures)
     (step-more _ _ _ _ _ _ _ _ _ c.in_ok-script.ensures
-    (step-stop _ _ _ _ _ _ _ _ (search rules) (rw (c.commands_input.ensures, c.labels_of-labels.ensures) at c.in_err-commands.ensures))))
+    (step-stop _ _ _ _ _ _ _ _ (search rules) (rw (c.commands_input.ensures, c.deref.ensures.value ∙ ap (λ (p : Loaded). p.labels) c.labelled-program.ensures) at c.in_err-commands.ensures))))
 
 pub returns-clause-reads : goal.returns-clause-reads
 unfolding run_of
 returns-clause-reads g c =
     step-more _ _ _ _ _ _ _ _ _ c.in_ok-program.ensures.loads (step-more _ _ _ _ _ _ _ _ _ (rw c.symbols_input.ensures at c.in_ok-given.ensures)
     (step-more _ _ _ _ _ _ _ _ _ c.in_ok-script.ensures
-    (step-last _ _ _ _ _ _ _ _ (rw (c.commands_input.ensures, c.labels_of-labels.ensures) at c.in_ok-commands.ensures) refl)))
+    (step-last _ _ _ _ _ _ _ _ (rw (c.commands_input.ensures, c.deref.ensures.value ∙ ap (λ (p : Loaded). p.labels) c.labelled-program.ensures) at c.in_ok-commands.ensures) (rw c.labelled-program.ensures refl))))
