@@ -17,8 +17,8 @@ pub fn value_named<V: Copy>(rows: &[Named<V>], name: &[u8]) -> Option<V>
     }
 }
 
-// The row of a name.
-fn row_named<'a, V: Copy>(rows: &'a [Named<V>], name: &[u8]) -> Option<&'a Named<V>>
+/// The row of a name.
+pub(crate) fn row_named<'a, V: Copy>(rows: &'a [Named<V>], name: &[u8]) -> Option<&'a Named<V>>
     ensures { option_copied result ≡ find (λ row. bytes_eq row.0.now name.now) rows.now }
 {
     rows.iter().find(|row| row.0.as_bytes() == name)

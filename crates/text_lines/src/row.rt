@@ -6,7 +6,7 @@ ghost use Rattle.text_lines.specs.Reading.{made};
 ghost use Rattle.text_lines.specs.Named.{named_in, value_named};
 ghost use Rattle.text_lines.specs.Rows.{counted, with_count, keyword_of};
 
-use crate::named::{Named, value_named};
+use crate::named::{Named, row_named};
 use crate::numbers::begins_with;
 use crate::words::first_word;
 
@@ -59,15 +59,15 @@ pub fn keyword_of<'a, K: Copy>(
 fn keyword_line<K: Copy>(rows: &[Row<K>], name: &[u8], values: &[u8]) -> Result<K, LineFault>
     ensures { result ≡ counted (value_named (named_in rows.now) name.now) (length (words_of values.now)) }
 {
-    match value_named(rows, name) {
-        Some(row) => with_count(row, count_words(values)),
+    match row_named(rows, name) {
+        Some(row) => with_count(&row.1, count_words(values)),
         None => Err(LineFault::Unknown),
     }
 }
 
 // The keyword of a row, where it takes so many values.
-fn with_count<K: Copy>(row: (Counts, K), count: usize) -> Result<K, LineFault>
-    ensures { result ≡ with_count row count }
+fn with_count<K: Copy>(row: &(Counts, K), count: usize) -> Result<K, LineFault>
+    ensures { result ≡ with_count row.now count }
 {
     let (least, most) = match row.0 {
         Counts::Exactly(count) => (count, count),
