@@ -103,9 +103,7 @@ pub(crate) fn draw_sprite(devices: &mut Devices, memory: &Memory, control: u8)
     store_short(devices, SCREEN_ADDR, next.addr);
 }
 
-/// Composes the marked rows of the screen, takes their marks away, and says how many there were. It stays out of what calls
-/// it, so that its loop has all registers.
-#[inline(never)]
+/// Composes the marked rows of the screen, takes their marks away, and says how many there were.
 pub(crate) fn refresh(devices: &mut Devices) -> u16
     ensures screen { Refreshes devices.old.screen devices.new.screen result }
     ensures others { devices.new ≡ record devices.old { screen = devices.new.screen } }

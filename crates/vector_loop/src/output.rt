@@ -57,7 +57,8 @@ fn append_row<'a, T: Tree, O: Sink, E: Sink>(
     append_to(bus, path, &row[..count])
 }
 
-/// Appends the picture that is shown.
+/// Appends the picture that is shown. It is rare and large, and so it stays out of what calls it.
+#[inline(never)]
 fn append_picture<'a, T: Tree, O: Sink, E: Sink>(
     bus: &mut Bus<'a, T, O, E>,
     path: &Path,
