@@ -1,7 +1,7 @@
 -- What a placer represents.
-use Rattle.std.specs.Prelude.{◌≡◌, ◌<◌, ◌≤◌, ℕ, ◌+◌, ◌*◌, ◌-◌, ◌^◌, nat_lt, if◌then◌else◌, Bool, true, false, List, [], slice_get}
-use Rattle.std.specs.Prelude.{◌∷◌, ◌++◌, length, take}
-use Rattle.std.specs.Prelude.{zero, suc, Option, Some, None, is_some, Result, Ok, Err}
+use Rattle.std.specs.Prelude.{◌≡◌, ◌<◌, ◌≤◌, ℕ, ◌+◌, ◌*◌, ◌-◌, ◌^◌, zero, suc, nat_lt, if◌then◌else◌, Bool, true, false}
+use Rattle.std.specs.Prelude.{List, [], ◌∷◌, ◌++◌, length, take, slice_get}
+use Rattle.std.specs.Prelude.{Option, Some, None, is_some, Result, Ok, Err}
 use Rattle.std.specs.Option.{option_map, option_or}
 use Rattle.tal_words.specs.declared.span.Expanded.{Expanded}
 use Rattle.tal_words.specs.declared.name.Label.{Label}
@@ -100,7 +100,8 @@ openers_step false true at openers = take (length openers - 1) openers
 openers_step false false at openers = openers
 
 -- what is done with a word of this form and text, which defines this name
-pub record IsStep (source : List ℕ) (shape : Form) (text : List ℕ) (name : Option (List ℕ)) (placed : PlacedWord) (old new : PlacerModel) : Type 0 where
+pub record IsStep (source : List ℕ) (shape : Form) (text : List ℕ) (name : Option (List ℕ)) (placed : PlacedWord)
+    (old new : PlacerModel) : Type 0 where
   pub words : new.words ≡ closed_labels (closed_opener (opens text) (closes text) old.openers) old.address (old.words ++ placed ∷ [])
   pub labels : new.labels ≡ old.labels ++ label_of name old.address
   pub openers : new.openers ≡ openers_step (opens text) (closes text) (length old.words) old.openers
