@@ -106,7 +106,9 @@ pub fn ppm_head(width: u16, height: u16) -> ArrayVec<u8, 32>
     head
 }
 
-/// Puts the bytes of a row of values 0 to 3, three for each, into a buffer of exactly that length.
+/// Puts the bytes of a row of values 0 to 3, three for each, into a buffer of exactly that length. It stays a function of its own: beside
+/// what calls it, its loop would have fewer registers.
+#[inline(never)]
 pub fn ppm_row(palette: &Palette, row: &[u8], into: &mut [u8])
     requires values { All (λ value. value < 4) row.now }
     requires room { length into.old ≡ 3 * length row.now }

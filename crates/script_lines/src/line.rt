@@ -199,8 +199,10 @@ fn clock_of_values(values: &[u8]) -> Option<Clock>
     ensures limits { IfSome result IsTime }
 {
     let (seconds, offset) = two_words(values)?;
-    let time = seconds_of(seconds).zip(minutes_of(offset));
-    time.map(|(seconds, offset)| Clock { seconds, offset })
+    Some(Clock {
+        seconds: seconds_of(seconds)?,
+        offset: minutes_of(offset)?,
+    })
 }
 
 #[tactic(auto, unfolding(crate::specs::Rows::keys_of))]
@@ -209,8 +211,9 @@ fn keys_of(version: Version, values: &[u8]) -> Option<Meaning>
     ensures limits { IfSome result (IsScriptRead version 0) }
 {
     let (word, more) = first_word(values)?;
-    let keys = byte_of(word).zip(further_of(version, MOST_TIMES, more));
-    keys.map(|(byte, count)| Meaning::Times(Event::Device(Input::Key(byte)), count))
+    let byte = byte_of(word)?;
+    let count = further_of(version, MOST_TIMES, more)?;
+    Some(Meaning::Times(Event::Device(Input::Key(byte)), count))
 }
 
 #[tactic(auto, unfolding(crate::specs::Rows::expect_of))]
@@ -222,8 +225,8 @@ fn expect_of(version: Version, values: &[u8]) -> Option<Meaning>
         Version::First => None,
         Version::Second => {
             let (port, byte) = two_words(values)?;
-            let read = byte_of(port).zip(byte_of(byte));
-            read.map(|(port, byte)| Meaning::Times(Event::Expect(port, byte), 1))
+            let expect = Event::Expect(byte_of(port)?, byte_of(byte)?);
+            Some(Meaning::Times(expect, 1))
         }
     }
 }
@@ -274,8 +277,7 @@ fn mouse_of(values: &[u8]) -> Option<Input>
     ensures limits { (version : Version) → IfSome result (λ input. IsEvent version (Device input)) }
 {
     let (x, y) = two_words(values)?;
-    let at = pixel_of(x).zip(pixel_of(y));
-    at.map(|(x, y)| Input::Mouse(x, y))
+    Some(Input::Mouse(pixel_of(x)?, pixel_of(y)?))
 }
 
 #[tactic(auto, unfolding(crate::specs::Rows::scroll_of))]
@@ -284,8 +286,7 @@ fn scroll_of(values: &[u8]) -> Option<Input>
     ensures limits { (version : Version) → IfSome result (λ input. IsEvent version (Device input)) }
 {
     let (x, y) = two_words(values)?;
-    let by = turn_of(x).zip(turn_of(y));
-    by.map(|(x, y)| Input::Scroll(x, y))
+    Some(Input::Scroll(turn_of(x)?, turn_of(y)?))
 }
 
 // The texts of a line, if each of its words is one.

@@ -11,7 +11,7 @@ use Rattle.uxn_opcodes.specs.declared.Turn.{Turn}
 use Rattle.uxn_opcodes.specs.Ports.{result_blame}
 use Rattle.uxn_opcodes.specs.Instruction.{Instruction}
 use Rattle.varvara_bus.specs.declared.bus.Bus.{Bus}
-use Rattle.varvara_bus.specs.Bus.{Becomes, BusRepresents, contents_on, BusModel, meaning_of, bus_rules, bus_faults}
+use Rattle.varvara_bus.specs.Bus.{BusRepresents, contents_on, BusModel, meaning_of, bus_rules, bus_faults}
 
 -- what nothing tells, and what it takes
 abbrev pub nothing : BusModel NoTree NoSink NoSink
@@ -20,13 +20,6 @@ nothing = meaning_of (record { state = state_of_no_tree }) (record { state = sta
 pub stands-alone : (bus : Bus NoTree NoSink NoSink) (held : Devices) (state : DeviceState) → bus.devices.now ≡ held → Rests held state
     → BusRepresents (contents_on nothing.tree) bus state
 stands-alone bus held state same rests = record { devices = rw same rests.devices; files = rests.alone }
-
--- what is stored over nothing outside
-pub rests-alone : (before now : Bus NoTree NoSink NoSink) (held final : Devices) (given : DeviceState → DeviceState) → before.devices.now ≡ held
-    → final ≡ now.devices.now → Becomes (contents_on nothing.tree) given before now → (state : DeviceState) → Rests held state → Rests final (given state)
-rests-alone before now held final given same last becomes state rests =
-    let done = becomes.bus state (stands-alone before held state same rests) in
-    record { devices = rw last done.devices; alone = done.files }
 
 -- over nothing outside, and without a root, no instruction stops
 stops-never : (core core_new : Core) (before now : Bus NoTree NoSink NoSink) (stop : Stop) → before.devices.now.root ≡ None

@@ -60,12 +60,8 @@ fn hold(devices: &mut Devices, byte: u8, kind: EventKind) -> u16
     ensures vector { (state : DeviceState) → Rests devices.old state
         → result ≡ stored_short (storing ((CONSOLE_READ, byte) ∷ (CONSOLE_TYPE, event_byte kind) ∷ []) state).history CONSOLE_VECTOR }
 {
-    let mut tree = NoTree;
-    let mut out = NoSink;
-    let mut err = NoSink;
-    let mut bus = Bus::new(devices, &mut tree, &mut out, &mut err);
-    bus.give(byte, kind);
-    bus.stored_short(CONSOLE_VECTOR)
+    devices.give(byte, kind);
+    devices.stored_short(CONSOLE_VECTOR)
 }
 
 /// The clock of a machine, by that of its script.
@@ -83,14 +79,9 @@ fn make_ready(devices: &mut Devices, arguments: &[Bytes])
     ensures { (state : DeviceState) → Rests devices.old state
         → Rests devices.new (storing (made_ready (bytes_in arguments.now)) state) }
 {
-    if arguments.is_empty() {
-        return;
+    if !arguments.is_empty() {
+        devices.store(CONSOLE_TYPE, EventKind::Input.byte());
     }
-    let mut tree = NoTree;
-    let mut out = NoSink;
-    let mut err = NoSink;
-    let mut bus = Bus::new(devices, &mut tree, &mut out, &mut err);
-    bus.store(CONSOLE_TYPE, EventKind::Input.byte());
 }
 
 impl Machine {
@@ -160,14 +151,9 @@ impl Machine {
     }
 
     /// The byte in the port of the state, which ends the run of an idle machine where it is not 0.
-    pub(crate) fn state(&mut self) -> u8
-        ensures state { (now : Place) → MachineRepresents self.old now → result ≡ stored now.done.last.devices.history SYSTEM_STATE }
-        ensures same { self.new ≡ self.old }
+    pub(crate) fn state(&self) -> u8
+        ensures { (now : Place) → MachineRepresents self.now now → result ≡ stored now.done.last.devices.history SYSTEM_STATE }
     {
-        let mut tree = NoTree;
-        let mut out = NoSink;
-        let mut err = NoSink;
-        let bus = Bus::new(&mut self.devices, &mut tree, &mut out, &mut err);
-        bus.stored(SYSTEM_STATE)
+        self.devices.stored(SYSTEM_STATE)
     }
 }

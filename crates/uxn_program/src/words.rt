@@ -1,6 +1,7 @@
 //! The words after the program's name, and what is said where they cannot be had.
 ghost use Rattle.uxn_program.specs.Refusal.{MainRefuses};
 
+use std::alloc::AllocError;
 use std::io::ErrorKind;
 use std::rt::Env;
 use std::{env, io};
@@ -25,11 +26,17 @@ impl From<io::Error> for WordsStop {
     }
 }
 
+impl From<AllocError> for WordsStop {
+    fn from(_: AllocError) -> WordsStop {
+        WordsStop::NoMemory
+    }
+}
+
 /// The words after the program's name.
 pub fn words_of<R: Env + AllocGlobal>(rt: &R) -> Result<Vec<String>, WordsStop> {
     let mut words = Vec::new(rt.alloc());
     for word in env::args(rt)?.skip(1) {
-        words.push(word).map_err(io::Error::from)?;
+        words.push(word)?;
     }
     Ok(words)
 }

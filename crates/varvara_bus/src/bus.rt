@@ -37,9 +37,6 @@ ghost use Rattle.varvara_bus.specs.Bus.{
 
 use crate::devices::Devices;
 use crate::files::act_on_file;
-use crate::page::{
-    apply as apply_to, give as give_to, settle as settle_to, store, stored, stored_short,
-};
 use crate::ports::Action;
 use crate::reading::read;
 use crate::screen::{ask_height, ask_width, draw_pixel, draw_sprite, palette, refresh};
@@ -112,7 +109,7 @@ impl<'a, T: Tree, O: Sink, E: Sink> Bus<'a, T, O, E> {
         ensures held { result ≡ held self.now port }
         ensures stored { (state : DeviceState) → DevicesRepresent self.now.devices.now state → result ≡ stored state.history port }
     {
-        stored(self.devices, port)
+        self.devices.stored(port)
     }
 
     /// The short in a port and the next one, its high byte first.
@@ -120,7 +117,7 @@ impl<'a, T: Tree, O: Sink, E: Sink> Bus<'a, T, O, E> {
         requires { port < 255 }
         ensures { (state : DeviceState) → DevicesRepresent self.now.devices.now state → result ≡ stored_short state.history port }
     {
-        stored_short(self.devices, port)
+        self.devices.stored_short(port)
     }
 
     /// Stores a byte in a port, without acting.
@@ -129,7 +126,7 @@ impl<'a, T: Tree, O: Sink, E: Sink> Bus<'a, T, O, E> {
         ensures others { ChangesDevices self.old self.new }
         ensures frames { frames_begun self.new ≡ frames_begun self.old }
     {
-        store(self.devices, port, value)
+        self.devices.store(port, value)
     }
 
     /// Stores an event of the console: its byte in port 12 and its kind in port 17.
@@ -139,7 +136,7 @@ impl<'a, T: Tree, O: Sink, E: Sink> Bus<'a, T, O, E> {
         ensures others { ChangesDevices self.old self.new }
         ensures frames { frames_begun self.new ≡ frames_begun self.old }
     {
-        give_to(self.devices, value, kind);
+        self.devices.give(value, kind);
     }
 
     /// Stores an input at its ports, as its vector finds them.
@@ -148,7 +145,7 @@ impl<'a, T: Tree, O: Sink, E: Sink> Bus<'a, T, O, E> {
         ensures others { ChangesDevices self.old self.new }
         ensures frames { frames_begun self.new ≡ frames_begun self.old }
     {
-        apply_to(self.devices, input);
+        self.devices.apply(input);
     }
 
     /// Stores 0 at the ports of an input that are 0 again after its vector.
@@ -157,7 +154,7 @@ impl<'a, T: Tree, O: Sink, E: Sink> Bus<'a, T, O, E> {
         ensures others { ChangesDevices self.old self.new }
         ensures frames { frames_begun self.new ≡ frames_begun self.old }
     {
-        settle_to(self.devices, input);
+        self.devices.settle(input);
     }
 
     /// Counts a frame that begins.
@@ -267,7 +264,7 @@ impl<'a, T: Tree, O: Sink, E: Sink> Ports for Bus<'a, T, O, E> {
     }
 
     fn deo(&mut self, core: &mut Core, port: u8, value: u8) -> Result<(), Stop> {
-        store(self.devices, port, value);
+        self.devices.store(port, value);
         self.act(core, Action::of(port), value)
     }
 
@@ -291,7 +288,7 @@ impl<'a, T: Tree, O: Sink, E: Sink> Bus<'a, T, O, E> {
         match action {
             Action::Stores => Ok(()),
             Action::Expands => {
-                expansion(&mut core.memory, stored_short(self.devices, 0x02));
+                expansion(&mut core.memory, self.devices.stored_short(0x02));
                 Ok(())
             }
             Action::SetsWorkingPointer => {

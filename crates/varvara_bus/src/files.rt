@@ -18,7 +18,6 @@ ghost use Rattle.varvara_bus.specs.FileCalls.{
 ghost use Rattle.varvara_bus.specs.Bus.{FilesStay, file_held};
 
 use crate::devices::Devices;
-use crate::page::{store_short, stored, stored_short};
 use crate::ports::{FileAct, FileNumber};
 use file_ports::{FileDevice, FileStop};
 use uxn_io_traits::{Path, Tree};
@@ -41,15 +40,15 @@ fn requested(devices: &Devices, act: FileAct, base: u8) -> Request
     ensures action { (state : DeviceState) → DevicesRepresent devices.now state → action_requested result ≡ file_action act state.history base }
     ensures act { act_requested result ≡ act }
 {
-    let length = stored_short(devices, base + 0x0a);
+    let length = devices.stored_short(base + 0x0a);
     match act {
-        FileAct::Stat => Request::Stat(stored_short(devices, base + 0x04), length),
+        FileAct::Stat => Request::Stat(devices.stored_short(base + 0x04), length),
         FileAct::Delete => Request::Delete,
-        FileAct::Name => Request::Name(stored_short(devices, base + 0x08)),
-        FileAct::Read => Request::Read(stored_short(devices, base + 0x0c), length),
+        FileAct::Name => Request::Name(devices.stored_short(base + 0x08)),
+        FileAct::Read => Request::Read(devices.stored_short(base + 0x0c), length),
         FileAct::Write => {
-            let keep = stored(devices, base + 0x07) % 2 == 1;
-            Request::Write(stored_short(devices, base + 0x0e), length, keep)
+            let keep = devices.stored(base + 0x07) % 2 == 1;
+            Request::Write(devices.stored_short(base + 0x0e), length, keep)
         }
     }
 }
@@ -129,7 +128,7 @@ pub(crate) fn act_on_file<T: Tree>(
     let request = requested(devices, act, number.base());
     match perform_on(devices, tree, memory, number, request) {
         Ok(success) => {
-            store_short(devices, number.base() + 0x02, success);
+            devices.store_short(number.base() + 0x02, success);
             Ok(())
         }
         Err(stop) => Err(stop_of(stop)),

@@ -12,9 +12,9 @@ ghost use Rattle.varvara_bus.specs.State.{DeviceState, DevicesRepresent, device_
 use crate::devices::Devices;
 use crate::time::{Clock, Time};
 use audio_mixer::Mixer;
-use console_port::{EventKind, give as give_page};
+use console_port::{EventKind, give};
 use file_ports::FileDevice;
-use input_ports::{Input, apply as apply_page, settle as settle_page};
+use input_ports::{Input, apply, settle};
 use screen_layers::Screen;
 use std::alloc::{AllocError, Global};
 use uxn_io_traits::Path;
@@ -44,6 +44,81 @@ impl Devices {
             root,
         })
     }
+
+    /// The byte last stored in a port.
+    #[inline(always)]
+    pub fn stored(&self, port: u8) -> u8
+        ensures held { result ≡ slice_index self.now.page port }
+        ensures stored { (state : DeviceState) → DevicesRepresent self.now state → result ≡ stored state.history port }
+    {
+        self.page[usize::from(port)]
+    }
+
+    /// Stores a byte in a port, without acting.
+    #[inline(always)]
+    pub fn store(&mut self, port: u8, value: u8)
+        ensures devices { self.new ≡ record self.old { page = slice_set self.old.page port value } }
+        ensures stands { (state : DeviceState) → DevicesRepresent self.old state → DevicesRepresent self.new (storing ((port, value) ∷ []) state) }
+        ensures held { (other : ℕ) → slice_index self.new.page other ≡ (if other == port then value else slice_index self.old.page other) }
+        ensures frames { self.new.time.frames ≡ self.old.time.frames }
+        ensures clock { device_clock self.new ≡ device_clock self.old }
+        ensures root { self.new.root ≡ self.old.root }
+    {
+        self.page[usize::from(port)] = value;
+    }
+
+    /// Stores an event of the console.
+    pub fn give(&mut self, value: u8, kind: EventKind)
+        ensures devices { self.new ≡ record self.old { page = given self.old.page value kind } }
+        ensures stands { (state : DeviceState) → DevicesRepresent self.old state
+            → DevicesRepresent self.new (storing ((CONSOLE_READ, value) ∷ (CONSOLE_TYPE, event_byte kind) ∷ []) state) }
+    {
+        give(&mut self.page, value, kind);
+    }
+
+    /// Stores an input at its ports.
+    pub(crate) fn apply(&mut self, input: &Input)
+        ensures devices { self.new ≡ record self.old {
+          page = with_stores self.old.page (stores_of (slice_index self.old.page) input.now);
+        } }
+        ensures stands { (state : DeviceState) → DevicesRepresent self.old state
+            → DevicesRepresent self.new (storing (stores_of (stored state.history) input.now) state) }
+    {
+        apply(&mut self.page, input);
+    }
+
+    /// Stores 0 at the ports of an input that are 0 again after its vector.
+    pub(crate) fn settle(&mut self, input: &Input)
+        ensures devices { self.new ≡ record self.old { page = with_stores self.old.page (stores_after input.now) } }
+        ensures stands { (state : DeviceState) → DevicesRepresent self.old state
+            → DevicesRepresent self.new (storing (stores_after input.now) state) }
+    {
+        settle(&mut self.page, input);
+    }
+
+    /// The short in a port and the next one.
+    #[inline(always)]
+    pub fn stored_short(&self, port: u8) -> u16
+        requires { port < 255 }
+        ensures { (state : DeviceState) → DevicesRepresent self.now state → result ≡ stored_short state.history port }
+    {
+        let high = self.page[usize::from(port)];
+        let low = self.page[usize::from(port) + 1];
+        u16::from(high) * 256 + u16::from(low)
+    }
+
+    /// Stores a short in a port and the next one, its high byte first.
+    pub(crate) fn store_short(&mut self, port: u8, value: u16)
+        requires { port < 255 }
+        ensures stands { (state : DeviceState) → DevicesRepresent self.old state
+            → DevicesRepresent self.new (storing (short_stores port value) state) }
+        ensures frames { self.new.time.frames ≡ self.old.time.frames }
+        ensures clock { device_clock self.new ≡ device_clock self.old }
+        ensures root { self.new.root ≡ self.old.root }
+    {
+        self.store(port, (value / 256) as u8);
+        self.store(port + 1, (value % 256) as u8);
+    }
 }
 
 /// What ports hold at first.
@@ -55,79 +130,4 @@ fn new_page() -> [u8; 256]
     page[0x24] = 0x01;
     page[0x22] = 0x02;
     page
-}
-
-/// The byte last stored in a port.
-#[inline(always)]
-pub(crate) fn stored(devices: &Devices, port: u8) -> u8
-    ensures held { result ≡ slice_index devices.now.page port }
-    ensures stored { (state : DeviceState) → DevicesRepresent devices.now state → result ≡ stored state.history port }
-{
-    devices.page[usize::from(port)]
-}
-
-/// Stores a byte in a port, without acting.
-#[inline(always)]
-pub(crate) fn store(devices: &mut Devices, port: u8, value: u8)
-    ensures devices { devices.new ≡ record devices.old { page = slice_set devices.old.page port value } }
-    ensures stands { (state : DeviceState) → DevicesRepresent devices.old state → DevicesRepresent devices.new (storing ((port, value) ∷ []) state) }
-    ensures held { (other : ℕ) → slice_index devices.new.page other ≡ (if other == port then value else slice_index devices.old.page other) }
-    ensures frames { devices.new.time.frames ≡ devices.old.time.frames }
-    ensures clock { device_clock devices.new ≡ device_clock devices.old }
-    ensures root { devices.new.root ≡ devices.old.root }
-{
-    devices.page[usize::from(port)] = value;
-}
-
-/// Stores an event of the console.
-pub(crate) fn give(devices: &mut Devices, value: u8, kind: EventKind)
-    ensures devices { devices.new ≡ record devices.old { page = given devices.old.page value kind } }
-    ensures stands { (state : DeviceState) → DevicesRepresent devices.old state
-        → DevicesRepresent devices.new (storing ((CONSOLE_READ, value) ∷ (CONSOLE_TYPE, event_byte kind) ∷ []) state) }
-{
-    give_page(&mut devices.page, value, kind);
-}
-
-/// Stores an input at its ports.
-pub(crate) fn apply(devices: &mut Devices, input: &Input)
-    ensures devices { devices.new ≡ record devices.old {
-      page = with_stores devices.old.page (stores_of (slice_index devices.old.page) input.now);
-    } }
-    ensures stands { (state : DeviceState) → DevicesRepresent devices.old state
-        → DevicesRepresent devices.new (storing (stores_of (stored state.history) input.now) state) }
-{
-    apply_page(&mut devices.page, input);
-}
-
-/// Stores 0 at the ports of an input that are 0 again after its vector.
-pub(crate) fn settle(devices: &mut Devices, input: &Input)
-    ensures devices { devices.new ≡ record devices.old { page = with_stores devices.old.page (stores_after input.now) } }
-    ensures stands { (state : DeviceState) → DevicesRepresent devices.old state
-        → DevicesRepresent devices.new (storing (stores_after input.now) state) }
-{
-    settle_page(&mut devices.page, input);
-}
-
-/// The short in a port and the next one.
-#[inline(always)]
-pub(crate) fn stored_short(devices: &Devices, port: u8) -> u16
-    requires { port < 255 }
-    ensures { (state : DeviceState) → DevicesRepresent devices.now state → result ≡ stored_short state.history port }
-{
-    let high = devices.page[usize::from(port)];
-    let low = devices.page[usize::from(port) + 1];
-    u16::from(high) * 256 + u16::from(low)
-}
-
-/// Stores a short in a port and the next one, its high byte first.
-pub(crate) fn store_short(devices: &mut Devices, port: u8, value: u16)
-    requires { port < 255 }
-    ensures stands { (state : DeviceState) → DevicesRepresent devices.old state
-        → DevicesRepresent devices.new (storing (short_stores port value) state) }
-    ensures frames { devices.new.time.frames ≡ devices.old.time.frames }
-    ensures clock { device_clock devices.new ≡ device_clock devices.old }
-    ensures root { devices.new.root ≡ devices.old.root }
-{
-    store(devices, port, (value / 256) as u8);
-    store(devices, port + 1, (value % 256) as u8);
 }

@@ -4,7 +4,6 @@ ghost use Rattle.varvara_bus.specs.State.{DeviceState, DevicesRepresent};
 ghost use Rattle.varvara_bus.specs.ReadsPort.{read_of};
 
 use crate::devices::Devices;
-use crate::page::stored;
 use crate::screen::{height_of, width_of};
 use crate::voices::{output, position};
 use uxn_opcodes::Core;
@@ -61,6 +60,6 @@ pub(crate) fn read(devices: &Devices, core: &Core, port: u8) -> u8
         0xc8 => high(devices.time.shown().year_day),
         0xc9 => low(devices.time.shown().year_day),
         0xca => 0,
-        _ => stored(devices, port),
+        _ => devices.stored(port),
     }
 }

@@ -7,7 +7,6 @@ ghost use Rattle.varvara_bus.specs.History.{colour_bytes};
 ghost use Rattle.varvara_bus.specs.Effect.{width_requested, height_requested, pixel_drawn, sprite_drawn};
 
 use crate::devices::Devices;
-use crate::page::{store_short, stored, stored_short};
 use screen_frame::Palette;
 use uxn_limits::ports::{
     SCREEN_ADDR, SCREEN_AUTO, SCREEN_HEIGHT, SCREEN_WIDTH, SCREEN_X, SCREEN_Y,
@@ -33,12 +32,12 @@ pub(crate) fn palette(devices: &Devices) -> Palette
     ensures { (state : DeviceState) → DevicesRepresent devices.now state → result.colours ≡ colours_of (colour_bytes state.history) }
 {
     Palette::of(&[
-        stored(devices, 0x08),
-        stored(devices, 0x09),
-        stored(devices, 0x0a),
-        stored(devices, 0x0b),
-        stored(devices, 0x0c),
-        stored(devices, 0x0d),
+        devices.stored(0x08),
+        devices.stored(0x09),
+        devices.stored(0x0a),
+        devices.stored(0x0b),
+        devices.stored(0x0c),
+        devices.stored(0x0d),
     ])
 }
 
@@ -50,7 +49,7 @@ pub(crate) fn ask_width(devices: &mut Devices)
     ensures clock { device_clock devices.new ≡ device_clock devices.old }
     ensures root { devices.new.root ≡ devices.old.root }
 {
-    let width = stored_short(devices, SCREEN_WIDTH);
+    let width = devices.stored_short(SCREEN_WIDTH);
     let height = height_of(devices);
     let _ = devices.screen.resize(width, height);
 }
@@ -64,7 +63,7 @@ pub(crate) fn ask_height(devices: &mut Devices)
     ensures root { devices.new.root ≡ devices.old.root }
 {
     let width = width_of(devices);
-    let height = stored_short(devices, SCREEN_HEIGHT);
+    let height = devices.stored_short(SCREEN_HEIGHT);
     let _ = devices.screen.resize(width, height);
 }
 
@@ -76,12 +75,12 @@ pub(crate) fn draw_pixel(devices: &mut Devices, control: u8)
     ensures clock { device_clock devices.new ≡ device_clock devices.old }
     ensures root { devices.new.root ≡ devices.old.root }
 {
-    let x = stored_short(devices, SCREEN_X);
-    let y = stored_short(devices, SCREEN_Y);
-    let auto = stored(devices, SCREEN_AUTO);
+    let x = devices.stored_short(SCREEN_X);
+    let y = devices.stored_short(SCREEN_Y);
+    let auto = devices.stored(SCREEN_AUTO);
     let (next_x, next_y) = devices.screen.pixel(x, y, auto, control);
-    store_short(devices, SCREEN_X, next_x);
-    store_short(devices, SCREEN_Y, next_y);
+    devices.store_short(SCREEN_X, next_x);
+    devices.store_short(SCREEN_Y, next_y);
 }
 
 /// Draws tiles, and stores the next x, y and address.
@@ -93,14 +92,14 @@ pub(crate) fn draw_sprite(devices: &mut Devices, memory: &Memory, control: u8)
     ensures clock { device_clock devices.new ≡ device_clock devices.old }
     ensures root { devices.new.root ≡ devices.old.root }
 {
-    let x = stored_short(devices, SCREEN_X);
-    let y = stored_short(devices, SCREEN_Y);
-    let addr = stored_short(devices, SCREEN_ADDR);
-    let auto = stored(devices, SCREEN_AUTO);
+    let x = devices.stored_short(SCREEN_X);
+    let y = devices.stored_short(SCREEN_Y);
+    let addr = devices.stored_short(SCREEN_ADDR);
+    let auto = devices.stored(SCREEN_AUTO);
     let next = devices.screen.sprite(memory, x, y, addr, auto, control);
-    store_short(devices, SCREEN_X, next.x);
-    store_short(devices, SCREEN_Y, next.y);
-    store_short(devices, SCREEN_ADDR, next.addr);
+    devices.store_short(SCREEN_X, next.x);
+    devices.store_short(SCREEN_Y, next.y);
+    devices.store_short(SCREEN_ADDR, next.addr);
 }
 
 /// Composes the marked rows of the screen, takes their marks away, and says how many there were.

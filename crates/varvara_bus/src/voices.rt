@@ -7,7 +7,6 @@ ghost use Rattle.varvara_bus.specs.Voices.{note_at};
 ghost use Rattle.varvara_bus.specs.Effect.{note_started};
 
 use crate::devices::Devices;
-use crate::page::{stored, stored_short};
 use crate::ports::Voice;
 use audio_mixer::Start;
 use uxn_memory::Memory;
@@ -18,11 +17,11 @@ fn note_at(devices: &Devices, base: u8) -> Start
     ensures { (state : DeviceState) → DevicesRepresent devices.now state → result ≡ note_at state.history base }
 {
     Start {
-        adsr: stored_short(devices, base + 0x08),
-        length: stored_short(devices, base + 0x0a),
-        addr: stored_short(devices, base + 0x0c),
-        volume: stored(devices, base + 0x0e),
-        pitch: stored(devices, base + 0x0f),
+        adsr: devices.stored_short(base + 0x08),
+        length: devices.stored_short(base + 0x0a),
+        addr: devices.stored_short(base + 0x0c),
+        volume: devices.stored(base + 0x0e),
+        pitch: devices.stored(base + 0x0f),
     }
 }
 
