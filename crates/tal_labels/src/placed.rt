@@ -60,11 +60,12 @@ impl Placed {
         self.labels.as_slice()
     }
 
-    /// The labels in order of definition, all else given up.
-    pub fn into_labels(self) -> Vec<Label>
-        ensures { result.items ≡ self.labels }
+    /// The words and the labels, their index given up.
+    pub fn into_parts(self) -> (Vec<PlacedWord>, Vec<Label>)
+        ensures words { result.0.items ≡ self.words }
+        ensures labels { result.1.items ≡ self.labels }
     {
-        self.labels.into_labels()
+        (self.words, self.labels.into_labels())
     }
 
     /// The address of the label of a full name.

@@ -14,7 +14,7 @@ use crate::patcher::Patcher;
 use crate::references::check_references;
 use std::alloc::{AllocError, Global};
 use std::marker::Model;
-use tal_labels::{Placed, PlacedWord, Placer, place};
+use tal_labels::{PlacedWord, Placer, place};
 use tal_macros::{Expander, expand};
 use tal_words::{AsmStop, Label, Word, words};
 
@@ -22,7 +22,8 @@ use tal_words::{AsmStop, Label, Word, words};
 #[derive(Drop)]
 pub struct Assembly {
     rom: Vec<u8>,
-    placed: Placed,
+    places: Vec<PlacedWord>,
+    labels: Vec<Label>,
 }
 
 impl Model for Assembly {
@@ -32,7 +33,7 @@ impl Model for Assembly {
 
     ghost Value = { Program };
 
-    ghost view = { λ assembly. record { rom = assembly.rom.items; places = assembly.placed.words; labels = assembly.placed.labels } };
+    ghost view = { λ assembly. record { rom = assembly.rom.items; places = assembly.places.items; labels = assembly.labels.items } };
 
     ghost invariant = { λ assembly. length assembly.rom.items ≤ rom_limit };
 }
@@ -50,14 +51,14 @@ impl Assembly {
     pub fn places(&self) -> &[PlacedWord]
         ensures { result.now ≡ self.now.places }
     {
-        self.placed.words()
+        &self.places
     }
 
     /// The labels by their full names, in order of definition.
     pub fn labels(&self) -> &[Label]
         ensures { result.now ≡ self.now.labels }
     {
-        self.placed.labels()
+        &self.labels
     }
 
     /// The bytes and the labels, all else given up.
@@ -66,7 +67,7 @@ impl Assembly {
         ensures labels { result.1.items ≡ self.labels }
         ensures room { length result.0.items ≤ rom_limit }
     {
-        (self.rom, self.placed.into_labels())
+        (self.rom, self.labels)
     }
 }
 
@@ -100,7 +101,14 @@ fn in_one_pass(alloc: Global, source: &[u8], words: &[Word]) -> Result<Option<As
         return Ok(None);
     };
     match placer.finish() {
-        Some(placed) => Ok(Some(Assembly { rom, placed })),
+        Some(placed) => {
+            let (places, labels) = placed.into_parts();
+            Ok(Some(Assembly {
+                rom,
+                places,
+                labels,
+            }))
+        }
         None => Ok(None),
     }
 }

@@ -9,7 +9,8 @@ returns-in-Some-finish c =
     let so = rw c.in-Some.is at c.in_ok-rom.ensures in
     let laid = contents _ _ _ (c.in-Some-finish.ensures source (expanded_of source) so.added) in
     let found = patched source (expanded_of source) c.in-Some-finish.placed c.in-Some.rom.items laid.1 so.patched in
-    assembled source c.requires.sound _ refl so.faultless c.in-Some-finish.placed laid.1 laid.0 c.in-Some.rom.items found.0 found.1
+    rw (c.into_parts-places.ensures.words, c.into_parts-places.ensures.labels)
+    (assembled source c.requires.sound _ refl so.faultless c.in-Some-finish.placed laid.1 laid.0 c.in-Some.rom.items found.0 found.1)
 
 pub returns-in-None : goal.returns-in-None
 returns-in-None c =
