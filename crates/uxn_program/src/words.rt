@@ -1,7 +1,7 @@
 //! The words after the program's name, and what is said where they cannot be had.
 ghost use Rattle.uxn_program.specs.Refusal.{MainRefuses};
 
-use std::alloc::AllocError;
+use std::alloc::AllocFailed;
 use std::io::ErrorKind;
 use std::rt::Env;
 use std::{env, io};
@@ -26,8 +26,8 @@ impl From<io::Error> for WordsStop {
     }
 }
 
-impl From<AllocError> for WordsStop {
-    fn from(_: AllocError) -> WordsStop {
+impl<T: Drop> From<AllocFailed<T>> for WordsStop {
+    fn from(_: AllocFailed<T>) -> WordsStop {
         WordsStop::NoMemory
     }
 }
