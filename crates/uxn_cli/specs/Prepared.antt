@@ -1,8 +1,10 @@
 -- What the code holds once the inputs of a task are accepted, as its plan; and what a run has before it begins.
-use Rattle.std.specs.Prelude.{◌≡◌, ℕ, Bool, List, [], Option, option_map, Ok, IfSome}
+use Rattle.std.specs.Prelude.{◌≡◌, ℕ, Bool, List, [], Option, option_map, Result, Ok, Err, IfSome}
 use Rattle.std.specs.Global.{Vec}
 use Rattle.uxn_inquiry.specs.Gives.{Gives}
+use Rattle.uxn_inquiry.specs.Inquires.{Inquires}
 use Rattle.uxn_io_traits.specs.Files.{Nodes}
+use Rattle.uxn_io_traits.specs.State.{TreeState, SinkState}
 use Rattle.uxn_opcodes.specs.Rule.{new_core}
 use Rattle.script_lines.specs.Scripts.{ScriptView}
 use Rattle.varvara_bus.specs.State.{DevicesRepresent, new_state}
@@ -11,14 +13,18 @@ use Rattle.uxn_arguments.specs.Options.{run_outputs}
 use Rattle.uxn_arguments.specs.declared.task.DebugTask.{DebugTask}
 use Rattle.uxn_arguments.specs.declared.task.RunTask.{RunTask}
 use Rattle.uxn_arguments.specs.declared.task.Task.{Task}
+use Rattle.uxn_arguments.specs.declared.task.Task.TheVariants as tasks
 use Rattle.uxn_task_files.specs.Accepted.{Loaded}
 use Rattle.uxn_task_files.specs.Held.{model_of_program}
+use Rattle.uxn_task_files.specs.Made.{Made}
 use Rattle.uxn_task_files.specs.Outputs.{paths_of}
+use Rattle.uxn_task_files.specs.declared.refusal.Halt.{Halt}
 use Rattle.uxn_line.specs.Streams.{clock_by}
 use Rattle.uxn_cli.specs.declared.playing.Prepared.{Prepared}
 use Rattle.uxn_cli.specs.declared.debugging.Session.{Session}
 use Rattle.uxn_cli.specs.RunJob.{Debugging, RunJob, debugging}
-use Rattle.uxn_cli.specs.Verdict.{Run, Print, Plan, planned, plan_of}
+use Rattle.uxn_cli.specs.Outside.{DoesWork, host_state}
+use Rattle.uxn_cli.specs.Verdict.{Run, Print, Plan, planned, plan_of, run_plan_of}
 
 -- a text that was made
 abbrev pub printed_plan : Vec ℕ → Plan
@@ -51,6 +57,19 @@ pub record IsReadyRun (run : RunTask) (debug : Option DebugTask) (prepared : Pre
   pub devices : AreNew prepared.machine.value.devices prepared.machine.value.script run.root
   pub undo : IfSome prepared.session (λ session. session.value.undo ≡ [])
   pub outputs : paths_of prepared.outputs.items ≡ run_outputs run debug
+
+-- a run that is prepared: its inputs were accepted, it is ready, and its outputs were made
+pub record IsPreparedRun (run : RunTask) (debug : Option DebugTask) (before now : TreeState) (prepared : Prepared) : Type 0 where
+  pub start : TreeState
+  pub asks : Inquires (prepared_plan run) (run_plan_of run debug) before start (Ok prepared)
+  pub ready : IsReadyRun run debug prepared
+  pub makes : Made (model_of_program prepared.program).included (run_outputs run debug) start now
+
+-- to prepare a run ends so, or its task is refused or ends early, whatever the sinks are
+abbrev pub Prepares : RunTask → Option DebugTask → TreeState → TreeState → Result Prepared Halt → Type 0
+Prepares run debug before now (Ok prepared) = IsPreparedRun run debug before now prepared
+Prepares run debug before now (Err halt) =
+    (out err : SinkState) → DoesWork (Ok (tasks.Run run debug)) (host_state before out err) (host_state now out err) (Err halt)
 
 -- the inputs of a task ask for this, as far as is known of the contents of the tree
 abbrev pub IsPlanned : Option Nodes → Task → Plan → Type 0

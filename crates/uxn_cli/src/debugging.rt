@@ -1,22 +1,22 @@
 //! The debugger of a run, and the log that it writes.
+ghost use Rattle.std.specs.Prelude.{◌≡◌, ◌≤◌, [], None, Some, IsSome};
 ghost use Rattle.uxn_io_traits.specs.Ended.{RefusesNone};
-ghost use Rattle.std.specs.Prelude.{◌≡◌, ◌≤◌, List, None, Some, IfSome, ◌<◌, Option, IsSome};
-ghost use Rattle.tal_words.specs.declared.name.Label.{Label};
-ghost use Rattle.uxn_cli.specs.Outside.{SameHost, outside_of};
-ghost use Rattle.uxn_debugger.specs.Watching.{held_by, new_watching};
-ghost use Rattle.uxn_cli.specs.RunJob.{debugging};
 ghost use Rattle.vector_loop.specs.Outputs.{IsOutput};
-ghost use Rattle.uxn_cli.specs.Prepared.{AreNew};
+ghost use Rattle.uxn_task_files.specs.Held.{model_of_program};
+ghost use Rattle.uxn_cli.specs.Outside.{SameHost, outside_of};
+ghost use Rattle.uxn_cli.specs.Prepared.{AreNew, session_debugging};
 ghost use Rattle.uxn_cli.specs.RunsFromRoot.{RunsFromRoot, RunFiles, task_trace, logged_changes};
 
 use super::host::Host;
 use super::machine::{Machine, core_known};
 use super::running::{RunEnd, run_made, write_text};
 use debug_commands::DebugCommand;
+use std::alloc::Global;
 use uxn_arguments::{DebugTask, RunTask};
 use uxn_debugger::{Debugger, the_log_is_that_of_the_run};
 use uxn_io_traits::{Sink, Tree};
 use uxn_opcodes::Stop;
+use uxn_task_files::Program;
 use uxn_undo::Undo;
 
 /// What a debugger does with a run.
@@ -30,29 +30,36 @@ pub struct Session {
     pub undo: Undo,
 }
 
-/// Runs a machine under a debugger, and writes the report and the log.
-pub fn debug_made<T: Tree, O: Sink, E: Sink>(
-    task: &RunTask,
-    debug: &DebugTask,
+/// Runs a machine that is ready under its debugger, and writes the report and the log.
+pub fn run_session<T: Tree, O: Sink, E: Sink>(
+    alloc: Global,
+    run: &RunTask,
     machine: &mut Machine,
-    debugger: &mut Debugger<'_>,
+    program: &Program,
+    session: Box<Session>,
     host: &mut Host<'_, '_, '_, T, O, E>,
 ) -> Result<RunEnd, Stop>
-    requires devices { AreNew machine.old.devices machine.old.script task.now.root }
-    requires budget { 1 ≤ task.now.budget }
-    requires files { RunFiles task.now (T.state host.old.tree.now).contents }
-    requires log { IsOutput task.now.root (T.state host.old.tree.now).contents debug.now.log }
-    ensures runs { (commands : List DebugCommand) (labels : List Label) → held_by debugger.old ≡ new_watching commands labels
-        → RunsFromRoot task.now.root (task_trace task.now machine.old) (logged_changes task.now machine.old (Some (debugging debug.now commands labels)))
-        (IsSome (Some (debugging debug.now commands labels)))
+    requires devices { AreNew machine.old.devices machine.old.script run.now.root }
+    requires undo { session.value.undo ≡ [] }
+    requires budget { 1 ≤ run.now.budget }
+    requires files { RunFiles run.now (T.state host.old.tree.now).contents }
+    requires log { IsOutput run.now.root (T.state host.old.tree.now).contents session.value.task.log }
+    ensures runs { RunsFromRoot run.now.root (task_trace run.now machine.old)
+        (logged_changes run.now machine.old (Some (session_debugging (model_of_program program.now) session.value))) (IsSome (Some session))
         (outside_of T.Tree O.Sink E.Sink host.old) (outside_of T.Tree O.Sink E.Sink host.new) result }
-    ensures refusals { task.now.root ≡ None → RefusesNone (T.state host.old.tree.now) (T.state host.new.tree.now) }
+    ensures refusals { run.now.root ≡ None → RefusesNone (T.state host.old.tree.now) (T.state host.new.tree.now) }
     ensures same { SameHost host.old host.new }
 {
     the_log_is_that_of_the_run();
     core_known(&machine.core);
-    let end = run_made(task, machine, host, debugger)?;
-    write_text(&Some(debug.log), debugger.log(), host.tree)
+    let Session {
+        task,
+        commands,
+        undo,
+    } = Box::into_inner(session);
+    let mut debugger = Debugger::new(alloc, commands, &program.labels, undo);
+    let end = run_made(run, machine, host, &mut debugger)?;
+    write_text(&Some(task.log), debugger.log(), host.tree)
         .and(Ok(end))
         .or(Err(Stop::TreeFault))
 }

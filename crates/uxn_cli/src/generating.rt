@@ -1,13 +1,11 @@
 //! What `gen` does: a workload is made, run and summed up.
-ghost use Rattle.std.specs.Prelude.{◌≡◌, ◌≤◌, [], None, Ok, codes, length, IfOk};
+ghost use Rattle.std.specs.Prelude.{◌≡◌, ◌≤◌, [], Ok, codes, length, IfOk};
 ghost use Rattle.uxn_limits.specs.declared.limits.TheConstants.{USUAL_BUDGET};
 ghost use Rattle.tal_rom.specs.Rom.{rom_limit};
 ghost use Rattle.uxn_arguments.specs.Values.{then_steps};
 ghost use Rattle.uxn_task_files.specs.Accepted.{validated_script};
 ghost use Rattle.uxn_line.specs.Streams.{run_of};
-ghost use Rattle.uxn_workload.specs.Summary.{summary_text};
-ghost use Rattle.uxn_cli.specs.Prepared.{AreNew};
-ghost use Rattle.uxn_cli.specs.Workload.{HasRunAlone, lone_trace, run_summary, workload_text};
+ghost use Rattle.uxn_cli.specs.Workload.{HasRunAlone, workload_text};
 ghost use Rattle.tal_rom.specs.Assembly.{rom_of};
 ghost use Rattle.tal_assembly.specs.Sources.{own_answer};
 ghost use Rattle.uxn_inquiry.specs.Inquires.{Says};
@@ -16,7 +14,7 @@ ghost use Rattle.uxn_task_files.specs.declared.refusal.Refusal.TheVariants.{Faul
 ghost use Rattle.uxn_cli.specs.Verdict.{accepted_summary};
 
 use super::host::Host;
-use super::machine::{Machine, new_machine};
+use super::machine::new_machine;
 use super::running::{RunEnd, Settings, run_machine};
 use script_lines::Script;
 use std::alloc::{AllocError, Global};
@@ -33,40 +31,19 @@ use vector_loop::{NoWatch, Outputs};
 /// The script of a workload.
 const SCRIPT: &[u8] = b"frame 60";
 
-/// What is said of a workload that ran, and of the bytes that it printed.
-#[tactic(auto, unfolding(crate::specs::Workload::workload_text))]
-fn sum_up(
+/// Runs a ROM on a machine of its own, without files and with an error output of its own. A fault of an output is
+/// running out of memory.
+fn run_rom(
     alloc: Global,
-    source: &[u8],
     rom: &[u8],
-    end: &RunEnd,
-    out: &GrowingSink,
-) -> Result<Vec<u8>, AllocError>
-    ensures { IfOk result (λ text. text.items ≡ summary_text (run_summary source.now rom.now end.now out.now.taken)) }
-{
-    let ran = Ran {
-        source: source.len() as u64,
-        rom: rom.len() as u64,
-        instructions: end.tally.instructions,
-        vectors: end.tally.vectors,
-        cuts: end.tally.cuts,
-        frames: end.tally.frames,
-        console: out.bytes(),
-        exit: end.exit,
-    };
-    ran.summary(alloc)
-}
-
-/// Runs a new machine without files, and with an error output of its own. A fault of an output is running out of memory.
-fn run_alone(
-    alloc: Global,
-    machine: &mut Machine,
+    script: Script,
     out: &mut GrowingSink,
 ) -> Result<RunEnd, AllocError>
-    requires devices { AreNew machine.old.devices machine.old.script None }
+    requires rom { length rom.now ≤ rom_limit }
     requires empty { out.old.taken ≡ [] }
-    ensures { IfOk result (λ end. HasRunAlone (lone_trace machine.old.core machine.old.script) end out.new.taken) }
+    ensures { IfOk result (λ end. HasRunAlone (run_of USUAL_BUDGET rom.now script) end out.new.taken) }
 {
+    let mut machine = new_machine(alloc, None, rom, script)?;
     let settings = Settings {
         outputs: Outputs {
             frames: None,
@@ -81,22 +58,7 @@ fn run_alone(
         out,
         err: &mut err,
     };
-    run_machine(machine, &settings, &mut host, &mut NoWatch).or(Err(AllocError))
-}
-
-/// Runs a ROM on a machine of its own.
-fn run_rom(
-    alloc: Global,
-    rom: &[u8],
-    script: Script,
-    out: &mut GrowingSink,
-) -> Result<RunEnd, AllocError>
-    requires rom { length rom.now ≤ rom_limit }
-    requires empty { out.old.taken ≡ [] }
-    ensures { IfOk result (λ end. HasRunAlone (run_of USUAL_BUDGET rom.now script) end out.new.taken) }
-{
-    let mut machine = new_machine(alloc, None, rom, script)?;
-    run_alone(alloc, &mut machine, out)
+    run_machine(&mut machine, &settings, &mut host, &mut NoWatch).or(Err(AllocError))
 }
 
 /// Runs a workload, and sums it up.
@@ -111,7 +73,17 @@ fn run_workload(
 {
     let mut out = GrowingSink::new(alloc);
     let end = run_rom(alloc, rom, script, &mut out)?;
-    sum_up(alloc, source, rom, &end, &out)
+    let ran = Ran {
+        source: source.len() as u64,
+        rom: rom.len() as u64,
+        instructions: end.tally.instructions,
+        vectors: end.tally.vectors,
+        cuts: end.tally.cuts,
+        frames: end.tally.frames,
+        console: out.bytes(),
+        exit: end.exit,
+    };
+    ran.summary(alloc)
 }
 
 /// The ROM of a workload.

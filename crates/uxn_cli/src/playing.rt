@@ -1,35 +1,30 @@
 //! What `play` and `debug` do: a program is run over a script, and a debugger may watch it.
 ghost use Rattle.std.specs.Prelude.{◌≡◌, ◌≤◌, [], None, Some, Ok, IfOk, IfSome, IsSome, length, option_map};
 ghost use Rattle.uxn_io_traits.specs.Ended.{RefusesNone};
-ghost use Rattle.uxn_memory.specs.Bytes.{largest_rom};
 ghost use Rattle.uxn_arguments.specs.Places.{HasApartOutputs};
 ghost use Rattle.uxn_arguments.specs.declared.task.Task.TheVariants as tasks;
 ghost use Rattle.vector_loop.specs.Outputs.{IsOutput};
 ghost use Rattle.uxn_arguments.specs.Options.{run_outputs as output_paths};
 ghost use Rattle.uxn_task_files.specs.Accepted.{Loaded};
 ghost use Rattle.uxn_task_files.specs.Outputs.{paths_of};
-ghost use Rattle.uxn_cli.specs.Verdict.{run_plan, run_plan_of};
+ghost use Rattle.uxn_cli.specs.Verdict.{run_plan};
+ghost use Rattle.uxn_memory.specs.Bytes.{largest_rom};
+ghost use Rattle.uxn_task_files.specs.Held.{model_of_inputs, model_of_program};
 ghost use Rattle.uxn_cli.specs.RunJob.{debugging};
 ghost use Rattle.uxn_cli.specs.Outside.{DoesWork, SameHost, outside_of, state_of_host};
-ghost use Rattle.uxn_cli.specs.Prepared.{IsReadyRun, AreNew, session_debugging, prepared_debugging, prepared_plan};
-ghost use Rattle.uxn_inquiry.specs.Inquires.{Inquires};
-ghost use Rattle.uxn_task_files.specs.Held.{model_of_inputs, model_of_program};
+ghost use Rattle.uxn_cli.specs.Prepared.{AreNew, IsReadyRun, Prepares, session_debugging, prepared_debugging, prepared_plan};
 ghost use Rattle.uxn_cli.specs.RunsFromRoot.{RunsFromRoot, RunFiles, task_trace, logged_changes};
 
-use super::debugging::{Session, debug_made};
+use super::debugging::{Session, run_session};
 use super::host::Host;
 use super::machine::{Machine, new_machine};
 use super::running::{RunEnd, run_made};
 use debug_commands::DebugCommand;
 use std::alloc::{AllocError, Global};
 use uxn_arguments::{DebugTask, RunTask, run_outputs};
-use uxn_debugger::Debugger;
-use uxn_inquiry::Halt as InquiryHalt;
 use uxn_io_traits::{Sink, Tree};
 use uxn_opcodes::Stop;
-use uxn_task_files::{
-    Halt, Output, Program, Refusal, RunInputs, empty_outputs, make_outputs, read_run,
-};
+use uxn_task_files::{Halt, Output, Program, RunInputs, empty_outputs, make_outputs, read_run};
 use uxn_undo::Undo;
 use vector_loop::NoWatch;
 
@@ -108,49 +103,21 @@ fn ready(
     })
 }
 
-/// The machine that is requested, and what a debugger does with its run.
+/// Reads the inputs of a run, takes all the memory that it needs but for the listing of a folder, and makes its outputs.
 #[inline(never)]
 fn prepare<T: Tree>(
     alloc: Global,
     run: &RunTask,
     debug: &Option<DebugTask>,
     tree: &mut T,
-) -> Result<Prepared, InquiryHalt<Refusal>>
-    ensures prepares { Inquires (prepared_plan run.now) (run_plan_of run.now debug.now) (T.state tree.old) (T.state tree.new) result }
-    ensures ready { IfOk result (IsReadyRun run.now debug.now) }
+) -> Result<Prepared, Halt>
+    requires { HasApartOutputs (tasks.Run run.now debug.now) }
+    ensures { Prepares run.now debug.now (T.state tree.old) (T.state tree.new) result }
 {
     let inputs = read_run(alloc, run, debug, tree)?;
     let prepared = ready(alloc, run, debug, inputs)?;
+    make_outputs(&prepared.program.included, &prepared.outputs, tree)?;
     Ok(prepared)
-}
-
-/// Runs a machine that is ready under its debugger, and writes the report and the log.
-fn run_session<T: Tree, O: Sink, E: Sink>(
-    alloc: Global,
-    run: &RunTask,
-    machine: &mut Machine,
-    program: &Program,
-    session: Box<Session>,
-    host: &mut Host<'_, '_, '_, T, O, E>,
-) -> Result<RunEnd, Stop>
-    requires devices { AreNew machine.old.devices machine.old.script run.now.root }
-    requires undo { session.value.undo ≡ [] }
-    requires budget { 1 ≤ run.now.budget }
-    requires files { RunFiles run.now (T.state host.old.tree.now).contents }
-    requires log { IsOutput run.now.root (T.state host.old.tree.now).contents session.value.task.log }
-    ensures runs { RunsFromRoot run.now.root (task_trace run.now machine.old)
-        (logged_changes run.now machine.old (Some (session_debugging (model_of_program program.now) session.value))) (IsSome (Some session))
-        (outside_of T.Tree O.Sink E.Sink host.old) (outside_of T.Tree O.Sink E.Sink host.new) result }
-    ensures refusals { run.now.root ≡ None → RefusesNone (T.state host.old.tree.now) (T.state host.new.tree.now) }
-    ensures same { SameHost host.old host.new }
-{
-    let Session {
-        task,
-        commands,
-        undo,
-    } = Box::into_inner(session);
-    let mut debugger = Debugger::new(alloc, commands, &program.labels, undo);
-    debug_made(run, &task, machine, &mut debugger, host)
 }
 
 /// Runs a machine that is ready, under its debugger where it has one, and writes the report and the log.
@@ -183,7 +150,7 @@ fn run_prepared<T: Tree, O: Sink, E: Sink>(
     }
 }
 
-/// Runs a program, which a debugger may watch: what it is given is accepted, its outputs are made, and it runs.
+/// Runs a program, which a debugger may watch.
 pub fn play<T: Tree, O: Sink, E: Sink>(
     alloc: Global,
     run: &RunTask,
@@ -197,7 +164,6 @@ pub fn play<T: Tree, O: Sink, E: Sink>(
     ensures same { SameHost host.old host.new }
 {
     let prepared = prepare(alloc, run, debug, host.tree)?;
-    make_outputs(&prepared.program.included, &prepared.outputs, host.tree)?;
     match run_prepared(alloc, run, prepared, host) {
         Ok(end) => Ok(end.exit),
         Err(stop) => Err(Halt::Stopped(stop)),

@@ -1,8 +1,7 @@
 //! The report of a run.
 ghost use Rattle.std.specs.Prelude.{◌≡◌, ◌+◌, ◌≤◌, ◌++◌, length};
 ghost use Rattle.arrayvec.specs.ArrayVec.{array_vec_len};
-ghost use Rattle.script_lines.specs.declared.script.Version.TheVariants.{Second as second};
-ghost use Rattle.uxn_cli.specs.RunJob.{common_lines, further_lines, report_line, report_text};
+ghost use Rattle.uxn_cli.specs.RunJob.{common_lines, report_line, report_text};
 
 use arrayvec::ArrayVec;
 use script_lines::Version;
@@ -38,15 +37,6 @@ fn common_lines(exit: u8, tally: &Tally) -> ArrayVec<u8, 256>
     text
 }
 
-/// Puts the lines that only version 2 has behind others.
-fn push_further(text: &mut ArrayVec<u8, 256>, tally: &Tally)
-    requires { array_vec_len text.old ≤ 198 }
-    ensures { text.new.items ≡ text.old.items ++ further_lines second tally.now }
-{
-    push_line(text, b"expects", tally.expects);
-    push_line(text, b"misses", tally.misses);
-}
-
 /// What is said of a run: seven lines, its exit code and what was counted, and two more for a script of version 2.
 pub fn report(version: Version, exit: u8, tally: &Tally) -> ArrayVec<u8, 256>
     ensures { result.items ≡ report_text version exit tally.now }
@@ -54,7 +44,10 @@ pub fn report(version: Version, exit: u8, tally: &Tally) -> ArrayVec<u8, 256>
     let mut text = common_lines(exit, tally);
     match version {
         Version::First => {}
-        Version::Second => push_further(&mut text, tally),
+        Version::Second => {
+            push_line(&mut text, b"expects", tally.expects);
+            push_line(&mut text, b"misses", tally.misses);
+        }
     }
     text
 }

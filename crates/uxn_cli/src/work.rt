@@ -12,13 +12,16 @@ ghost use Rattle.uxn_cli.specs.Verdict.{plan_of};
 
 use super::generating::summarize;
 use super::host::Host;
-use super::joining::{join_up, run_line};
+use super::joining::run_line;
 use super::playing::play;
 use std::alloc::Global;
 use uxn_arguments::{AssembleTask, Task};
 use uxn_inquiry::Halt as InquiryHalt;
 use uxn_io_traits::{Path, Sink, Tree};
-use uxn_task_files::{Halt, Refusal, assemble, disassemble_rom, print, write_outputs};
+use uxn_line::are_of_console;
+use uxn_task_files::{
+    Halt, Refusal, assemble, disassemble_rom, print, read_machines, write_outputs,
+};
 
 /// Writes the files of a source.
 fn write<T: Tree, O: Sink, E: Sink>(
@@ -49,7 +52,8 @@ fn print_text<T: Tree, O: Sink, E: Sink>(
     print(&text, host.out)
 }
 
-/// Runs the machines of a setup in a line.
+/// Runs the machines of a setup in a line, where their script has events of the console alone.
+#[inline(never)]
 fn join<T: Tree, O: Sink, E: Sink>(
     alloc: Global,
     path: &Path,
@@ -59,8 +63,11 @@ fn join<T: Tree, O: Sink, E: Sink>(
         (state_of_host T.Tree O.Sink E.Sink host.old) (state_of_host T.Tree O.Sink E.Sink host.new) result }
     ensures same { SameHost host.old host.new }
 {
-    let joined = join_up(alloc, path, host.tree)?;
-    run_line(alloc, &joined, host.out)
+    let inputs = read_machines(alloc, path, host.tree)?;
+    if !are_of_console(inputs.script.events()) {
+        return Err(Halt::Refused(Refusal::OtherEvents));
+    }
+    run_line(alloc, &inputs, host.out)
 }
 
 /// Does the work of a task.

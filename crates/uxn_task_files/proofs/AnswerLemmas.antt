@@ -1,9 +1,9 @@
 -- What the inputs of a command are over known contents.
 use Rattle.uxn_task_files.proofs.Common.{◌≡◌, ℕ, ◌∙◌, List, [], Option, Some, None, Ok, Err, Result, ap, Bool, true, false, if◌then◌else◌}
 use Rattle.uxn_task_files.proofs.Common.{Nodes, Label, RunTask, DebugTask, AssembleTask, Run, Assemble, Refusal, answer_in}
-unfoldable use Rattle.uxn_task_files.proofs.Common.{run_of, program_of, symbols_of, script_of, commands_of, source_of, files_of, requested_text}
+unfoldable use Rattle.uxn_task_files.proofs.Common.{run_of, program_of, symbols_of, script_of, commands_of, source_of, files_of}
 use Rattle.uxn_inquiry.specs.InquiryLaws.{answered, answer-more, answer-refused}
-use Rattle.uxn_task_files.specs.Accepted.{GivenInputs, labelled, first_source}
+use Rattle.uxn_task_files.specs.Accepted.{GivenInputs, first_source}
 
 pub same_ok : {A : Type 0} (one other : A) → ◌≡◌ {A = Result A Refusal} (Ok one) (Ok other) → one ≡ other
 same_ok one other is = cc
@@ -14,12 +14,12 @@ played given labels = record given { program = record given.program { labels = l
 
 pub plays-given : (nodes : Nodes) (run : RunTask) (debug : DebugTask) (given : GivenInputs) → answer_in nodes (run_of run (Some debug)) ≡ Ok given
     → (labels : List Label) × (answer_in nodes (run_of run None) ≡ Ok (played given labels))
-unfolding run_of symbols_of commands_of requested_text
+unfolding run_of symbols_of commands_of
 plays-given nodes run debug given is =
     let program = answered nodes (program_of run.rom run.file) _ given is in
-    let symbols = answered nodes (symbols_of debug.symbols) _ given program.rest in
+    let symbols = answered nodes (symbols_of program.value.labels debug.symbols) _ given program.rest in
     let script = answered nodes (script_of run.script) _ given symbols.rest in
-    let commands = answered nodes (commands_of (labelled symbols.value program.value).labels (Some debug.commands)) _ given script.rest in (
+    let commands = answered nodes (commands_of symbols.value (Some debug.commands)) _ given script.rest in (
       program.value.labels,
       answer-more nodes (program_of run.rom run.file) _ program.value program.first
           ∙ answer-more nodes (script_of run.script) _ script.value script.first

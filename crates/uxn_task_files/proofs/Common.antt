@@ -48,8 +48,8 @@ pub use Rattle.uxn_task_files.specs.Accepted.{SourceFiles, output_texts}
 unfoldable pub use Rattle.uxn_task_files.specs.Accepted.{source_of, program_of, symbols_of, script_of, commands_of, setup_of, machine_of, run_of, files_of, disassembly_of, machines_of, free_output}
 pub use Rattle.uxn_task_files.specs.Accepted.{free_outputs, said_output}
 pub use Rattle.uxn_task_files.specs.Inputs.{kind_text}
-unfoldable pub use Rattle.uxn_task_files.specs.Inputs.{text_of, requested_text}
-pub use Rattle.uxn_task_files.specs.Made.{AreApart, AreFree, EndsMaking, HalfDone, IsUnmade, Made, Refuses, WroteTexts}
+unfoldable pub use Rattle.uxn_task_files.specs.Inputs.{text_of}
+pub use Rattle.uxn_task_files.specs.Made.{AreApart, AreFree, DoesPart, EndsMaking, HalfDone, IsUnmade, Made, MakesOutputs, Refuses, WritesOutputs}
 pub use Rattle.uxn_task_files.specs.World.{AreFiles, Text, text_paths, with_empty}
 unfoldable pub use Rattle.uxn_task_files.specs.World.{CanMake}
 pub use Rattle.uxn_task_files.specs.Request.{apart, word_refusal}

@@ -7,7 +7,6 @@ use Rattle.uxn_task_files.proofs.Common.{creating_all, filling_all, writing, Out
 use Rattle.uxn_io_traits.specs.AppendingLaws.{contents_after-file}
 use Rattle.uxn_io_traits.specs.CallLaws.{ended-as, contents_after-creating, unknown-as}
 use Rattle.uxn_io_traits.specs.Ended.{Refused, creating as creating_at, refused_also}
-use Rattle.uxn_io_traits.specs.FaultLaws.{counted-same}
 use Rattle.uxn_task_files.proofs.OutputLemmas.{observed_paths, keep_files}
 
 -- a tree of unknown contents tells nothing; one of unknown contents in the end told nothing before
@@ -16,10 +15,6 @@ still-unknown changes a b did none = did.stands ∙ ap (contents_after changes) 
 
 pub unknown-before : (changes : List Change) (a b : TreeState) → TreeEnded changes false a b → b.contents ≡ None → a.contents ≡ None
 unknown-before changes a b did none = (let is = did.stands ∙ contents_after-map a.contents changes in grind (arith, common_steps, is))
-
--- whatever is to be done to a tree of unknown contents is done
-unknown-done : (changes : List Change) (now : TreeState) → now.contents ≡ None → TreeEnded changes false now now
-unknown-done = grind (arith, common_steps, contents_after-none, counted-same)
 
 -- refusals that are counted, after calls that were not refused
 pub refused-then : (file : Option (List ℕ)) (a b c : TreeState) → Refused None a b → b.tally.exact ≡ a.tally.exact → Refused file b c
@@ -40,10 +35,6 @@ did-then first more failed refused a b c p q = record {
 
 pub did-first : (first more : List Change) (refused : Option (List ℕ)) (a b : TreeState) → Did first true refused a b → Did (first ++ more) true refused a b
 did-first first more refused a b p = record { done = tree-first first more a b p.done; refusals = p.refusals }
-
-pub did-unknown : (first more : List Change) (refused : Option (List ℕ)) (a b : TreeState) → Did first false refused a b → b.contents ≡ None
-    → Did (first ++ more) false refused a b
-did-unknown first more refused a b p none = record { done = tree-then first more false a b b p.done (unknown-done more b none); refusals = p.refusals }
 
 pub did-looked : (changes : List Change) (failed : Bool) (refused : Option (List ℕ)) (a b c : TreeState) → TreeLooked false a b → Did changes failed refused b c
     → Did changes failed refused a c

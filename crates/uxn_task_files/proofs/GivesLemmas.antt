@@ -4,7 +4,7 @@ use Rattle.uxn_task_files.proofs.Common.{Bool, true, false, outputs_of, RunTask,
 use Rattle.uxn_task_files.proofs.Common.{output_texts, Text, text_paths, Refusal, Label, Sourced, Inquiry, Answer, and_then, gather, free_outputs}
 use Rattle.uxn_task_files.proofs.Common.{rules, then_steps}
 use Rattle.uxn_task_files.specs.Accepted.{validated_script}
-unfoldable use Rattle.uxn_task_files.proofs.Common.{text_of, requested_text, source_of, program_of, symbols_of, script_of, commands_of, setup_of}
+unfoldable use Rattle.uxn_task_files.proofs.Common.{text_of, source_of, program_of, symbols_of, script_of, commands_of, setup_of}
 unfoldable use Rattle.uxn_task_files.proofs.Common.{machine_of, run_of, files_of, disassembly_of, machines_of, free_output}
 unfoldable use Rattle.uxn_task_files.proofs.Common.{source_inquiry}
 use Rattle.tal_assembly.specs.declared.fault.SourceFault.{SourceFault}
@@ -50,11 +50,6 @@ pub text-asked : (kind : InputKind) (path : List ℕ) → IsAsked (text_of kind 
 unfolding text_of
 text-asked kind path = λ reply is. grind arith
 
-requested-asked : (kind : InputKind) (path : Option (List ℕ)) → IsAsked (requested_text kind path)
-unfolding requested_text
-requested-asked kind None = tt
-requested-asked kind (Some path) = asked-then _ (text_of kind path) _ (text-asked kind path) (λ text. tt)
-
 pub then-given : {A B : Type 0} (Q : B → Type 0) (said : Result A Refusal) (next : A → Result B Refusal) → IsOfInputs (λ value. Unit {0}) said
     → ((value : A) → IsOfInputs Q (next value)) → IsOfInputs Q (then_steps said next)
 then-given Q (Ok value) next given more = more value
@@ -78,17 +73,20 @@ unfolding program_of
 program-asked true path = asked-then _ (text_of kinds.Rom path) _ (text-asked kinds.Rom path) (λ rom. tt)
 program-asked false path = asked-then _ (source_of path) _ (source-asked path) (λ source. tt)
 
-symbols-asked : (path : Option (List ℕ)) → IsAsked (symbols_of path)
+symbols-asked : (labels : List Label) (path : Option (List ℕ)) → IsAsked (symbols_of labels path)
 unfolding symbols_of
-symbols-asked path = asked-then _ (requested_text kinds.Symbols path) _ (requested-asked kinds.Symbols path) (λ text. grind arith)
+symbols-asked labels None = tt
+symbols-asked labels (Some path) = asked-then _ (text_of kinds.Symbols path) _ (text-asked kinds.Symbols path) (λ text. grind arith)
 
 script-asked : (path : Option (List ℕ)) → IsAsked (script_of path)
 unfolding script_of
-script-asked path = asked-then _ (requested_text kinds.Script path) _ (requested-asked kinds.Script path) (λ text. script-given _)
+script-asked None = script-given []
+script-asked (Some path) = asked-then _ (text_of kinds.Script path) _ (text-asked kinds.Script path) (λ text. script-given text)
 
 commands-asked : (labels : List Label) (path : Option (List ℕ)) → IsAsked (commands_of labels path)
 unfolding commands_of
-commands-asked labels path = asked-then _ (requested_text kinds.Commands path) _ (requested-asked kinds.Commands path) (λ text. grind arith)
+commands-asked labels None = tt
+commands-asked labels (Some path) = asked-then _ (text_of kinds.Commands path) _ (text-asked kinds.Commands path) (λ text. grind arith)
 
 machine-asked : (path : List ℕ) → IsAsked (machine_of path)
 unfolding machine_of
@@ -107,7 +105,7 @@ run-asked = search (rules, asked-then, program-asked, symbols-asked, script-aske
 
 pub disassembly-asked : (task : DisassembleTask) → IsAsked (disassembly_of task)
 unfolding disassembly_of
-disassembly-asked task = asked-then _ _ _ (text-asked _ _) (λ rom. asked-then _ _ _ (symbols-asked _) (λ given. tt))
+disassembly-asked task = asked-then _ _ _ (text-asked _ _) (λ rom. asked-then _ _ _ (symbols-asked _ _) (λ labels. tt))
 
 setup-asked : (path : List ℕ) → IsAsked (setup_of path)
 unfolding setup_of

@@ -1,18 +1,20 @@
 -- Outputs that are looked at, made and written.
 use Rattle.uxn_task_files.proofs.Common.{Err, Ok, IfSome, IsSome, List, None, Option, Some, [], arith, bytes_eq, false, find, inl, inr, option_map}
-use Rattle.uxn_task_files.proofs.Common.{option_to_list, refl, subst, sym, true, ℕ, ◌∙◌, ◌∷◌, ◌≡◌, common_steps, All-head, All-tail, bytes_eq-Decides}
+use Rattle.uxn_task_files.proofs.Common.{option_to_list, refl, subst, sym, true, true≢false, ℕ, ◌∙◌, ◌∷◌, ◌≡◌, common_steps, All-cons, All-head, All-nil, All-tail, bytes_eq-Decides}
 use Rattle.uxn_task_files.proofs.Common.{list_any, with_created, TreeEnded, TreeLooked, contents_after, Nodes, file_at, Change, TreeState, clashes}
-use Rattle.uxn_task_files.proofs.Common.{inputs_of, outputs_of, root_of, AreApart, AreFree, EndsMaking, HalfDone, IsUnmade, Made, WroteTexts, Refuses}
-use Rattle.uxn_task_files.proofs.Common.{paths_of, observed_texts, AreFiles, CanMake, Text, text_paths, with_empty, Did, creating_all, writing}
-use Rattle.uxn_task_files.proofs.Common.{Output, Gives, Inquires, free_outputs, Refusal, rules}
+use Rattle.uxn_task_files.proofs.Common.{inputs_of, outputs_of, root_of, AreApart, AreFree, DoesPart, EndsMaking, HalfDone, IsUnmade, Made, MakesOutputs, Refuses, WritesOutputs}
+use Rattle.uxn_task_files.proofs.Common.{paths_of, observed_text, observed_texts, AreFiles, CanMake, Text, text_paths, with_empty, Did, creating_all, writing}
+use Rattle.uxn_task_files.proofs.Common.{Output, Gives, Inquires, free_outputs, Refusal, rules, Result, Bool, Halt}
 use Rattle.uxn_inquiry.specs.declared.halt.Halt.{Halt as InquiryHalt}
-use Rattle.uxn_inquiry.specs.declared.halt.Halt.TheVariants.{Refused, TreeFault, NoMemory}
+use Rattle.uxn_inquiry.specs.declared.halt.Halt.TheVariants as denied
+use Rattle.uxn_task_files.specs.declared.refusal.Halt.TheVariants.{Refused, Stopped}
+use Rattle.uxn_opcodes.specs.declared.Stop.TheVariants.{TreeFault, SinkFault, NoMemory}
 use Rattle.uxn_inquiry.specs.GivesLaws.{inquires-gives}
 use Rattle.uxn_inquiry.specs.Laws.{inquires-looked}
 use Rattle.uxn_io_traits.specs.FaultLaws.{counted-then}
 use Rattle.uxn_task_files.specs.Blame.{halt_of_inquiry}
 use Rattle.uxn_task_files.proofs.ApartLemmas.{makes_all, made_files}
-use Rattle.uxn_task_files.proofs.DidLemmas.{did-looked, still-unknown, refused-then}
+use Rattle.uxn_task_files.proofs.DidLemmas.{creates, fills, did-first, did-then, did-looked, as-writing, still-unknown, refused-then}
 use Rattle.uxn_task_files.proofs.FreeLemmas.{free-can, free-unmade}
 use Rattle.uxn_task_files.proofs.OutputLemmas.{observed_paths}
 use Rattle.uxn_task_files.proofs.PlaceLemmas.{no_clash-fewer}
@@ -26,6 +28,19 @@ file_among path (text ∷ texts) nodes e files =
     let here = All-head (λ (t : Text). IsSome (file_at nodes t.path)) text texts files in
     let there = All-tail (λ (t : Text). IsSome (file_at nodes t.path)) text texts files in
     grind (arith, common_steps, rest, here, there, bytes_eq-Decides)
+
+files_among : (outputs : List Output) (nodes : Nodes) → ((path : List ℕ) → list_any (bytes_eq path) (paths_of outputs) ≡ true → IsSome (file_at nodes path))
+    → AreFiles (observed_texts outputs) nodes
+files_among [] nodes there = All-nil _
+files_among (output ∷ outputs) nodes there =
+    All-cons (λ (t : Text). IsSome (file_at nodes t.path)) (observed_text output) (observed_texts outputs) (there output.path (grind (arith, common_steps, bytes_eq-Decides)))
+    (files_among outputs nodes (λ path among. there path (grind (arith, common_steps))))
+
+pub made-there : (outputs : List Output) (t : Option Nodes)
+    → ((path : List ℕ) → list_any (bytes_eq path) (paths_of outputs) ≡ true → IfSome t (λ nodes. IsSome (file_at nodes path)))
+    → IfSome t (AreFiles (observed_texts outputs))
+made-there outputs None there = tt
+made-there outputs (Some nodes) there = files_among outputs nodes there
 
 -- the known contents of a tree once files were made
 pub made-contents : (texts : List Text) (contents : Option Nodes) → IfSome contents (CanMake texts)
@@ -43,11 +58,11 @@ files-made = search (rules, made_files, observed_paths, made-contents)
 -- outputs that are not to be made, or a tree that failed
 pub looks-ended : (included paths : List (List ℕ)) (changes : List Change) (before now : TreeState) (halt : InquiryHalt Refusal)
     → Inquires (λ (free : Unit {0}). free) (free_outputs included paths) before now (Err halt) → EndsMaking included paths changes before now (halt_of_inquiry halt)
-looks-ended included paths changes before now (Refused refusal) asks =
+looks-ended included paths changes before now (denied.Refused refusal) asks =
     let looked = inquires-looked _ _ before now _ asks in
     record { blocked = inquires-gives _ _ before now _ asks; contents = looked.contents; counted = looked.counted; refusals = inl looked.refusals }
-looks-ended included paths changes before now TreeFault asks = inl (inquires-looked _ _ before now _ asks)
-looks-ended included paths changes before now NoMemory asks = inquires-looked _ _ before now _ asks
+looks-ended included paths changes before now denied.TreeFault asks = inl (inquires-looked _ _ before now _ asks)
+looks-ended included paths changes before now denied.NoMemory asks = inquires-looked _ _ before now _ asks
 
 module _ (outputs : List Output) (apart : AreApart (paths_of outputs)) (included : List (List ℕ)) (start here : TreeState)
     (asks : Inquires (λ (free : Unit {0}). free) (free_outputs included (paths_of outputs)) start here (Ok tt)) where
@@ -110,6 +125,42 @@ module _ (outputs : List Output) (apart : AreApart (paths_of outputs)) (included
             → IfSome now.contents (λ nodes. IsSome (file_at nodes path))
         in_files path among files = grind (arith, common_steps, file_among)
 
-    -- all was written
-    pub all-written : Did (writing (observed_texts outputs)) false None here now → WroteTexts included (paths_of outputs) (observed_texts outputs) start now
-    all-written did = (let all = did-looked _ false None start here now looked did in record { free = free; did = all.done; refusals = all.refusals })
+    -- so they were made, or one is refused, or the tree failed
+    pub makes-outputs : (result : Result (Unit {0}) Halt) → DoesPart (paths_of outputs) (creating_all (paths_of outputs)) here now result
+        → MakesOutputs included (paths_of outputs) start now result
+    makes-outputs (Ok _) did = all-made did
+    makes-outputs (Err (Refused refusal)) left = rw left.names (one-unmade _ left.path left.unmade left.did)
+    makes-outputs (Err (Stopped TreeFault)) did = inr (half-done _ did)
+    makes-outputs (Err (Stopped SinkFault)) never = absurd never
+    makes-outputs (Err (Stopped NoMemory)) never = absurd never
+
+-- ---- files that are made, and then get their bytes
+
+module _ (outputs : List Output) (included : List (List ℕ)) (start here : TreeState) where
+  -- they were not all made
+  pub makes-first : (halt : Halt) → EndsMaking included (paths_of outputs) (creating_all (paths_of outputs)) start here halt
+      → EndsMaking included (paths_of outputs) (writing (observed_texts outputs)) start here halt
+  makes-first (Refused refusal) refused = refused
+  makes-first (Stopped TreeFault) (inl looked) = inl looked
+  makes-first (Stopped TreeFault) (inr half) =
+      let first = did-first (creates outputs) (fills outputs) None start here (record { done = half.did; refusals = half.refusals }) in
+      let did = as-writing outputs true None start here first in
+      inr (record { free = half.free; did = did.done; refusals = did.refusals })
+  makes-first (Stopped NoMemory) looked = looked
+  makes-first (Stopped SinkFault) never = never
+
+  -- they were, and got their bytes, or the tree failed
+  module _ (now : TreeState) (made : Made included (paths_of outputs) start here) where
+    did-both : (failed : Bool) → Did (fills outputs) failed None here now → Did (writing (observed_texts outputs)) failed None start now
+    did-both failed did =
+        as-writing outputs failed None start now
+        (did-then (creates outputs) (fills outputs) failed None start here now (record { done = made.did; refusals = made.refusals }) did)
+
+    pub writes-then : (result : Result (Unit {0}) Halt) → DoesPart [] (fills outputs) here now result
+        → WritesOutputs included (paths_of outputs) (observed_texts outputs) start now result
+    writes-then (Ok _) did = (let both = did-both false did in record { free = made.free; did = both.done; refusals = both.refusals })
+    writes-then (Err (Refused refusal)) left = absurd (true≢false (sym left.unmade.among))
+    writes-then (Err (Stopped TreeFault)) did =
+        let both = did-both true did in inr (record { free = made.free; did = both.done; refusals = both.refusals })
+    writes-then (Err (Stopped SinkFault)) never = absurd never
+    writes-then (Err (Stopped NoMemory)) never = absurd never

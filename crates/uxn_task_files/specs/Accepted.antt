@@ -1,10 +1,9 @@
 -- What is asked for each input of a task, and what it says; then for all of them, in the order of work: the first that is not accepted
 -- counts, and nothing is asked behind it.
 use Rattle.std.specs.Prelude.{ℕ, Bool, true, false, not, ◌&&◌, if◌then◌else◌, List, [], ◌∷◌}
-use Rattle.std.specs.Prelude.{◌++◌, Option, Some, None, option_map, option_and_then, unwrap_or}
+use Rattle.std.specs.Prelude.{◌++◌, Option, Some, None, option_map, option_and_then}
 use Rattle.std.specs.Prelude.{Result, Ok, Err}
 use Rattle.std.specs.List.{list_any}
-use Rattle.std.specs.Option.{option_map_or, option_transpose}
 use Rattle.std.specs.Str.{bytes_eq}
 use Rattle.debug_commands.specs.declared.command.DebugCommand.{DebugCommand}
 use Rattle.debug_commands.specs.Reading.{commands_of_text}
@@ -28,7 +27,7 @@ use Rattle.uxn_inquiry.specs.Inquiry.{Inquiry, Answer, and_then, gather, creatab
 use Rattle.uxn_task_files.specs.declared.inputs.InputKind.TheVariants as kinds
 use Rattle.uxn_task_files.specs.declared.refusal.Refusal.{Refusal}
 use Rattle.uxn_task_files.specs.declared.refusal.Refusal.TheVariants.{Faulty, BadSymbols, BadScript, BadCommands, BadSetup, NoOutput}
-use Rattle.uxn_task_files.specs.Inputs.{text_of, requested_text}
+use Rattle.uxn_task_files.specs.Inputs.{text_of}
 use Rattle.uxn_task_files.specs.World.{Text, requested_output}
 
 -- a source that has no fault, nor has a file that it includes (131): the text that is assembled, and the paths of the files that it
@@ -60,21 +59,26 @@ validated_script text = result_as (λ fault. BadScript fault.0 fault.1) (script_
 
 -- without a file it is that of an empty text
 unfoldable pub script_of : Option (List ℕ) → Inquiry (Result ScriptView Refusal)
-script_of path = and_then (requested_text kinds.Script path) (λ text. Answer (validated_script (unwrap_or text [])))
+script_of None = Answer (validated_script [])
+script_of (Some path) = and_then (text_of kinds.Script path) (λ text. Answer (validated_script text))
 
--- the labels of a symbol file that has no fault (134), where one is given
-abbrev pub said_symbols : Option (List ℕ) → Result (Option (List Label)) Refusal
-said_symbols text = result_as (λ bad. BadSymbols bad.entry bad.kind) (option_transpose (option_map symbols_in text))
+-- the labels of a symbol file that has no fault (134)
+abbrev pub validated_symbols : List ℕ → Result (List Label) Refusal
+validated_symbols text = result_as (λ bad. BadSymbols bad.entry bad.kind) (symbols_in text)
 
-unfoldable pub symbols_of : Option (List ℕ) → Inquiry (Result (Option (List Label)) Refusal)
-symbols_of path = and_then (requested_text kinds.Symbols path) (λ text. Answer (said_symbols text))
+-- without a file the labels stay
+unfoldable pub symbols_of : List Label → Option (List ℕ) → Inquiry (Result (List Label) Refusal)
+symbols_of labels None = Answer (Ok labels)
+symbols_of labels (Some path) = and_then (text_of kinds.Symbols path) (λ text. Answer (validated_symbols text))
 
--- commands that have no fault (133); without a file there are none
-abbrev pub said_commands : List Label → Option (List ℕ) → Result (List DebugCommand) Refusal
-said_commands labels text = option_map_or (λ t. result_as (λ fault. BadCommands fault.0 fault.1) (commands_of_text labels t)) text (Ok [])
+-- commands that have no fault (133)
+abbrev pub validated_commands : List Label → List ℕ → Result (List DebugCommand) Refusal
+validated_commands labels text = result_as (λ fault. BadCommands fault.0 fault.1) (commands_of_text labels text)
 
+-- without a file there are none
 unfoldable pub commands_of : List Label → Option (List ℕ) → Inquiry (Result (List DebugCommand) Refusal)
-commands_of labels path = and_then (requested_text kinds.Commands path) (λ text. Answer (said_commands labels text))
+commands_of labels None = Answer (Ok [])
+commands_of labels (Some path) = and_then (text_of kinds.Commands path) (λ text. Answer (validated_commands labels text))
 
 -- a setup that has no fault (139)
 abbrev pub said_setup : List ℕ → Result SetupView Refusal
@@ -95,18 +99,14 @@ pub record GivenInputs : Type 0 where
   pub script : ScriptView
   pub commands : List DebugCommand
 
--- a program with the labels of a symbol file in place of its own, where one is given
-abbrev pub labelled : Option (List Label) → Loaded → Loaded
-labelled given program = record program { labels = unwrap_or given program.labels }
-
--- `play`, and `debug` with a debugger
+-- `play`, and `debug` with a debugger: a program has the labels of a symbol file in place of its own, where one is given
 unfoldable pub run_of : RunTask → Option DebugTask → Inquiry (Result GivenInputs Refusal)
 run_of run debug =
     and_then (program_of run.rom run.file) (λ program.
-    and_then (symbols_of (option_and_then (λ debug. debug.symbols) debug)) (λ given.
+    and_then (symbols_of program.labels (option_and_then (λ debug. debug.symbols) debug)) (λ labels.
     and_then (script_of run.script) (λ script.
-    and_then (commands_of (labelled given program).labels (option_map (λ debug. debug.commands) debug)) (λ commands.
-    Answer (Ok (record { program = labelled given program; script = script; commands = commands }))))))
+    and_then (commands_of labels (option_map (λ debug. debug.commands) debug)) (λ commands.
+    Answer (Ok (record { program = record program { labels = labels }; script = script; commands = commands }))))))
 
 -- `asm`: a source's ROM, symbols and listing, in the files that are requested; with the files that it includes
 abbrev pub program_in : List ℕ → Program
@@ -128,8 +128,8 @@ files_of task = and_then (source_of task.file) (λ source. Answer (Ok (record { 
 unfoldable pub disassembly_of : DisassembleTask → Inquiry (Result (List ℕ) Refusal)
 disassembly_of task =
     and_then (text_of kinds.BankRom task.file) (λ rom.
-    and_then (symbols_of task.symbols) (λ given.
-    Answer (Ok (disassembly rom (unwrap_or given [])))))
+    and_then (symbols_of [] task.symbols) (λ labels.
+    Answer (Ok (disassembly rom labels))))
 
 -- `line`: the machines of a setup: their ROMs, and the script of the first one
 pub record Machines : Type 0 where

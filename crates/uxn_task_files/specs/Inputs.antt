@@ -1,5 +1,5 @@
 -- The files that a task reads, by their kinds: what each may hold at most, why a longer one is refused, and what is asked for its bytes.
-use Rattle.std.specs.Prelude.{ℕ, List, [], Option, Some, None, Result, Ok, Err}
+use Rattle.std.specs.Prelude.{ℕ, List, [], None, Result, Ok, Err}
 use Rattle.debug_commands.specs.declared.command.CommandKind.TheVariants.{LongCommands}
 use Rattle.script_lines.specs.declared.script.ScriptKind.TheVariants.{LongScript}
 use Rattle.setup_lines.specs.declared.setup.SetupKind.TheVariants.{LongSetup}
@@ -47,8 +47,3 @@ kind_text kind path (TooLong length) = Err ((size_rule kind).refusal length)
 -- its bytes are asked for
 unfoldable pub text_of : InputKind → List ℕ → Inquiry (Result (List ℕ) Refusal)
 text_of kind path = and_then (file_of path (size_rule kind).most) (λ file. Answer (kind_text kind path file))
-
--- the same, where the words name one
-unfoldable pub requested_text : InputKind → Option (List ℕ) → Inquiry (Result (Option (List ℕ)) Refusal)
-requested_text kind None = Answer (Ok None)
-requested_text kind (Some path) = and_then (text_of kind path) (λ text. Answer (Ok (Some text)))

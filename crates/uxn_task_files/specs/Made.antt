@@ -6,7 +6,6 @@ use Rattle.uxn_inquiry.specs.Gives.{Gives}
 use Rattle.uxn_io_traits.specs.Ended.{TreeEnded, TreeLooked, Refused as CreateRefused, creating_all}
 use Rattle.uxn_io_traits.specs.Faults.{Counted}
 use Rattle.uxn_io_traits.specs.Files.{Nodes, file_at}
-use Rattle.uxn_io_traits.specs.declared.sinks.Failed.{Failed}
 use Rattle.uxn_io_traits.specs.Outside.{Change}
 use Rattle.uxn_io_traits.specs.State.{TreeState}
 use Rattle.uxn_opcodes.specs.declared.Stop.TheVariants.{TreeFault, SinkFault, NoMemory}
@@ -19,7 +18,7 @@ use Rattle.uxn_task_files.specs.declared.refusal.Halt.{Halt}
 use Rattle.uxn_task_files.specs.declared.refusal.Halt.TheVariants.{Refused, Stopped}
 use Rattle.uxn_task_files.specs.Accepted.{free_outputs}
 use Rattle.uxn_task_files.specs.World.{Text}
-use Rattle.uxn_task_files.specs.Writing.{writing}
+use Rattle.uxn_task_files.specs.Writing.{Did, writing}
 
 -- each output can be made, as the contents of the tree have it, and is no included file
 abbrev pub AreFree : Option Nodes → List (List ℕ) → List (List ℕ) → Type 0
@@ -31,7 +30,7 @@ pub record AreApart (paths : List (List ℕ)) : Type 0 where
   pub apart : HasApartOutputs task
   pub outputs : paths ≡ outputs_of task
 
--- an output that a tree did not make, of unknown contents
+-- an output that a tree of unknown contents did not make
 pub record IsUnmade (tree : Option Nodes) (paths : List (List ℕ)) (path : List ℕ) : Type 0 where
   pub unknown : tree ≡ None
   pub among : list_any (bytes_eq path) paths ≡ true
@@ -84,7 +83,17 @@ abbrev pub WritesOutputs : List (List ℕ) → List (List ℕ) → List Text →
 WritesOutputs included paths texts before now (Ok _) = WroteTexts included paths texts before now
 WritesOutputs included paths texts before now (Err halt) = EndsMaking included paths (writing texts) before now halt
 
--- the output that the tree itself refused to create
-abbrev pub unmade_file : Result (Option (List ℕ)) Failed → Option (List ℕ)
-unmade_file (Ok file) = file
-unmade_file (Err failed) = None
+-- ---- what a part of this work does: these changes, in order, and a file that the tree does not make ends it
+
+pub record LeavesUnmade (paths : List (List ℕ)) (changes : List Change) (refusal : Refusal) (before now : TreeState) : Type 0 where
+  pub path : List ℕ
+  pub names : refusal ≡ NoOutput path
+  pub unmade : IsUnmade before.contents paths path
+  pub did : Did changes false (Some path) before now
+
+abbrev pub DoesPart : List (List ℕ) → List Change → TreeState → TreeState → Result (Unit {0}) Halt → Type 0
+DoesPart paths changes before now (Ok _) = Did changes false None before now
+DoesPart paths changes before now (Err (Refused refusal)) = LeavesUnmade paths changes refusal before now
+DoesPart paths changes before now (Err (Stopped TreeFault)) = Did changes true None before now
+DoesPart paths changes before now (Err (Stopped SinkFault)) = ⊥
+DoesPart paths changes before now (Err (Stopped NoMemory)) = ⊥

@@ -7,7 +7,9 @@ ghost use Rattle.uxn_task_files.specs.Held.{model_of_files};
 ghost use Rattle.uxn_task_files.specs.Made.{AreApart, WritesOutputs};
 ghost use Rattle.uxn_task_files.specs.Outputs.{paths_of, observed_texts};
 
-use super::outputs::{Output, look_at, push_output, write_all};
+use super::making::make_outputs;
+use super::outputs::{Output, fill_all, push_output};
+use super::program::Program;
 use super::refusal::{Halt, Refusal};
 use super::sources::accept_source;
 use std::alloc::{AllocError, Global};
@@ -62,22 +64,19 @@ pub fn assemble<T: Tree>(
 {
     let source = accept_source(alloc, &task.file, tree)?;
     let outputs = outputs_of(alloc, task, &source);
-    let (_, included) = source.into_parts();
+    let program = Program::from(source);
     Ok(Written {
-        included,
+        included: program.included,
         outputs: outputs?,
     })
 }
 
-/// Writes the files that were requested.
+/// Writes the files that were requested: makes them, and then appends their bytes.
 pub fn write_outputs<T: Tree>(written: &Written, tree: &mut T) -> Result<(), Halt>
     requires { AreApart (paths_of written.now.outputs.items) }
     ensures { WritesOutputs written.now.included.items (paths_of written.now.outputs.items) (observed_texts written.now.outputs.items)
         (T.state tree.old) (T.state tree.new) result }
 {
-    look_at(&written.included, &written.outputs, tree)?;
-    match write_all(tree, &written.outputs)? {
-        Some(path) => Err(Halt::Refused(Refusal::NoOutput(path))),
-        None => Ok(()),
-    }
+    make_outputs(&written.included, &written.outputs, tree)?;
+    fill_all(tree, &written.outputs)
 }

@@ -1,28 +1,24 @@
 //! The commands of a debugger.
-ghost use Rattle.std.specs.Prelude.{option_map};
 ghost use Rattle.uxn_inquiry.specs.Inquires.{Inquires, Says};
-ghost use Rattle.uxn_task_files.specs.Accepted.{commands_of, said_commands};
+ghost use Rattle.uxn_task_files.specs.Accepted.{commands_of, validated_commands};
 
-use super::inputs::{InputKind, read_requested};
+use super::inputs::{InputKind, read_text};
 use super::refusal::Refusal;
 use debug_commands::{CommandStop, DebugCommand, read_commands};
 use std::alloc::Global;
 use tal_words::Label;
 use uxn_inquiry::Halt;
-use uxn_io_traits::{Bytes, Path, Tree};
+use uxn_io_traits::{Path, Tree};
 
-/// The commands of a file; without one there are none.
-fn said_commands(
+/// The commands of a text.
+fn validate_commands(
     alloc: Global,
     labels: &[Label],
-    text: &Option<Bytes>,
+    text: &[u8],
 ) -> Result<Vec<DebugCommand>, Halt<Refusal>>
-    ensures { Says (λ commands. commands.items) (said_commands labels.now (option_map (λ text. text.list) text.now)) result }
+    ensures { Says (λ commands. commands.items) (validated_commands labels.now text.now) result }
 {
-    let Some(text) = text else {
-        return Ok(Vec::new(alloc));
-    };
-    match read_commands(alloc, text.as_slice(), labels) {
+    match read_commands(alloc, text, labels) {
         Ok(commands) => Ok(commands),
         Err(CommandStop::Refused { line, kind }) => {
             Err(Halt::Refused(Refusal::BadCommands(line, kind)))
@@ -31,7 +27,7 @@ fn said_commands(
     }
 }
 
-/// The commands that are requested.
+/// The commands that are requested; without a file there are none.
 pub fn accept_commands<T: Tree>(
     alloc: Global,
     path: &Option<Path>,
@@ -40,6 +36,9 @@ pub fn accept_commands<T: Tree>(
 ) -> Result<Vec<DebugCommand>, Halt<Refusal>>
     ensures { Inquires (λ commands. commands.items) (commands_of labels.now path.now) (T.state tree.old) (T.state tree.new) result }
 {
-    let text = read_requested(alloc, InputKind::Commands, path, tree)?;
-    said_commands(alloc, labels, &text)
+    let Some(path) = path else {
+        return Ok(Vec::new(alloc));
+    };
+    let text = read_text(alloc, InputKind::Commands, path, tree)?;
+    validate_commands(alloc, labels, text.as_slice())
 }

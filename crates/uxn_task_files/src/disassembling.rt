@@ -4,7 +4,7 @@ ghost use Rattle.uxn_task_files.specs.Accepted.{disassembly_of};
 
 use super::inputs::{InputKind, read_text};
 use super::refusal::Refusal;
-use super::symbols::{accept_symbols, labels_or};
+use super::symbols::accept_symbols;
 use std::alloc::Global;
 use tal_listing::disassemble;
 use uxn_arguments::DisassembleTask;
@@ -20,6 +20,6 @@ pub fn disassemble_rom<T: Tree>(
     ensures { Inquires (λ text. text.items) (disassembly_of task.now) (T.state tree.old) (T.state tree.new) result }
 {
     let rom = read_text(alloc, InputKind::BankRom, &task.file, tree)?;
-    let given = accept_symbols(alloc, &task.symbols, tree)?;
-    disassemble(alloc, rom.as_slice(), labels_or(&given, &[])).map_err(Halt::from)
+    let labels = accept_symbols(alloc, &task.symbols, Vec::new(alloc), tree)?;
+    disassemble(alloc, rom.as_slice(), &labels).map_err(Halt::from)
 }

@@ -1,8 +1,8 @@
 //! Inputs: the files that are read, one after the other, each by its kind.
-ghost use Rattle.std.specs.Prelude.{◌≡◌, ◌≤◌, length, option_map, IfOk};
+ghost use Rattle.std.specs.Prelude.{◌≡◌, ◌≤◌, length, IfOk};
 ghost use Rattle.uxn_io_traits.specs.WholeFile.{KeepsLimit};
 ghost use Rattle.uxn_inquiry.specs.Inquires.{Inquires, Says};
-ghost use Rattle.uxn_task_files.specs.Inputs.{requested_text, text_of, size_rule, kind_text, too_long};
+ghost use Rattle.uxn_task_files.specs.Inputs.{text_of, size_rule, kind_text, too_long};
 
 use super::refusal::Refusal;
 use debug_commands::CommandKind;
@@ -103,22 +103,4 @@ pub fn read_text<T: Tree>(
 {
     let file = read_whole(alloc, tree, path, kind.limit())?;
     kind.kind_text(alloc, path, file)
-}
-
-/// The same, where the file is requested.
-pub fn read_requested<T: Tree>(
-    alloc: Global,
-    kind: InputKind,
-    path: &Option<Path>,
-    tree: &mut T,
-) -> Result<Option<Bytes>, Halt<Refusal>>
-    ensures { Inquires (option_map (λ text. text.list)) (requested_text kind path.now) (T.state tree.old) (T.state tree.new) result }
-{
-    match path {
-        Some(path) => {
-            let text = read_text(alloc, kind, path, tree)?;
-            Ok(Some(text))
-        }
-        None => Ok(None),
-    }
 }

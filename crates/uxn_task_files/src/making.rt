@@ -4,7 +4,7 @@ ghost use Rattle.uxn_task_files.specs.Outputs.{paths_of};
 ghost use Rattle.uxn_task_files.specs.Made.{AreApart, MakesOutputs};
 
 use super::outputs::{Output, look_at, make_all, push_output};
-use super::refusal::{Halt, Refusal};
+use super::refusal::Halt;
 use std::alloc::{AllocError, Global};
 use uxn_io_traits::{Path, Tree};
 
@@ -29,8 +29,5 @@ pub fn make_outputs<T: Tree>(
     ensures { MakesOutputs included.now (paths_of outputs.now) (T.state tree.old) (T.state tree.new) result }
 {
     look_at(included, outputs, tree)?;
-    match make_all(tree, outputs)? {
-        Some(path) => Err(Halt::Refused(Refusal::NoOutput(path))),
-        None => Ok(()),
-    }
+    make_all(tree, outputs)
 }

@@ -1,18 +1,18 @@
 //! The files that a command writes.
-ghost use Rattle.std.specs.Prelude.{◌≡◌, ◌++◌, ◌∷◌, [], None, IfOk, IfSome, OnOk, is_err};
+ghost use Rattle.std.specs.Prelude.{◌≡◌, ◌++◌, ◌∷◌, [], IfSome, OnOk};
 ghost use Rattle.uxn_inquiry.specs.Inquires.{Inquires, Says};
 ghost use Rattle.uxn_task_files.specs.Accepted.{free_output, free_outputs, said_output};
 ghost use Rattle.uxn_io_traits.specs.Ended.{creating_all};
-ghost use Rattle.uxn_task_files.specs.Writing.{Did, filling_all, writing};
+ghost use Rattle.uxn_task_files.specs.Writing.{filling_all};
 ghost use Rattle.uxn_task_files.specs.World.{CanMake, AreFiles};
 ghost use Rattle.uxn_task_files.specs.Outputs.{observed_texts, paths_of};
-ghost use Rattle.uxn_task_files.specs.Made.{IsUnmade, unmade_file};
+ghost use Rattle.uxn_task_files.specs.Made.{DoesPart};
 
-use super::refusal::Refusal;
+use super::refusal::{Halt, Refusal};
 use std::alloc::AllocError;
 use uxn_arguments::is_among;
 use uxn_inquiry::{Halt as InquiryHalt, can_create};
-use uxn_io_traits::{Failed, Path, Tree, append_all};
+use uxn_io_traits::{Path, Tree, append_all};
 
 /// A file that is to be written.
 #[derive(Drop)]
@@ -72,44 +72,27 @@ pub fn look_at<T: Tree>(
     Ok(())
 }
 
-/// Makes the files, empty and in order, or gives the first one that the tree does not make. On a tree
-/// of known contents each is made.
-pub fn make_all<T: Tree>(tree: &mut T, outputs: &[Output]) -> Result<Option<Path>, Failed>
+/// Makes the files, empty and in order, and refuses the first one that the tree does not make. On a tree of
+/// known contents each is made.
+pub fn make_all<T: Tree>(tree: &mut T, outputs: &[Output]) -> Result<(), Halt>
     requires { IfSome (T.state tree.old).contents (CanMake (observed_texts outputs.now)) }
-    ensures did { Did (creating_all (paths_of outputs.now)) (is_err result) (unmade_file result) (T.state tree.old) (T.state tree.new) }
-    ensures unmade { IfOk result (λ refused. IfSome refused (IsUnmade (T.state tree.old).contents (paths_of outputs.now))) }
+    ensures { DoesPart (paths_of outputs.now) (creating_all (paths_of outputs.now)) (T.state tree.old) (T.state tree.new) result }
 {
     for output in outputs {
         if !tree.create(&output.path)? {
-            return Ok(Some(output.path));
+            return Err(Halt::Refused(Refusal::NoOutput(output.path)));
         }
     }
-    Ok(None)
+    Ok(())
 }
 
 /// Appends to each file its bytes, in order.
-fn fill_all<T: Tree>(tree: &mut T, outputs: &[Output]) -> Result<(), Failed>
+pub fn fill_all<T: Tree>(tree: &mut T, outputs: &[Output]) -> Result<(), Halt>
     requires { IfSome (T.state tree.old).contents (AreFiles (observed_texts outputs.now)) }
-    ensures { Did (filling_all (observed_texts outputs.now)) (is_err result) None (T.state tree.old) (T.state tree.new) }
+    ensures { DoesPart [] (filling_all (observed_texts outputs.now)) (T.state tree.old) (T.state tree.new) result }
 {
     for output in outputs {
         append_all(tree, &output.path, &output.bytes)?;
     }
     Ok(())
-}
-
-/// Writes the files: makes each, and then appends its bytes. Gives the first one that the tree does not
-/// make, which comes only on a tree of unknown contents.
-pub fn write_all<T: Tree>(tree: &mut T, outputs: &[Output]) -> Result<Option<Path>, Failed>
-    requires { IfSome (T.state tree.old).contents (CanMake (observed_texts outputs.now)) }
-    ensures did { Did (writing (observed_texts outputs.now)) (is_err result) (unmade_file result) (T.state tree.old) (T.state tree.new) }
-    ensures unmade { IfOk result (λ refused. IfSome refused (IsUnmade (T.state tree.old).contents (paths_of outputs.now))) }
-{
-    match make_all(tree, outputs)? {
-        Some(path) => Ok(Some(path)),
-        None => {
-            fill_all(tree, outputs)?;
-            Ok(None)
-        }
-    }
 }

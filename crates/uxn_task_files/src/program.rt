@@ -25,22 +25,6 @@ pub struct Program {
     pub included: Vec<Path>,
 }
 
-impl Program {
-    ghost use Rattle.std.specs.Prelude.{◌≡◌, option_map};
-    ghost use Rattle.uxn_task_files.specs.Accepted.{labelled};
-    ghost use Rattle.uxn_task_files.specs.Held.{model_of_program};
-
-    /// The program with the labels of a symbol file in place of its own, where one is given.
-    pub(crate) fn labelled(self, given: Option<Vec<Label>>) -> Program
-        ensures { model_of_program result ≡ labelled (option_map (λ labels. labels.items) given) (model_of_program self) }
-    {
-        Program {
-            labels: given.unwrap_or(self.labels),
-            ..self
-        }
-    }
-}
-
 /// A source is not needed once it is assembled.
 impl From<AssembledSource> for Program {
     ghost use Rattle.std.specs.Prelude.{◌≡◌};

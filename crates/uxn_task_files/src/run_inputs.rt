@@ -59,12 +59,11 @@ pub fn read_run<T: Tree>(
     ensures room { IfOk result (λ inputs. length (model_of_program inputs.program).rom ≤ largest_rom) }
 {
     let program = accept_program(alloc, run.rom, &run.file, tree)?;
-    let given = accept_symbols(alloc, &symbols_input(debug), tree)?;
-    let program = program.labelled(given);
+    let labels = accept_symbols(alloc, &symbols_input(debug), program.labels, tree)?;
     let script = accept_script(alloc, &run.script, tree)?;
-    let commands = accept_commands(alloc, &commands_input(debug), &program.labels, tree)?;
+    let commands = accept_commands(alloc, &commands_input(debug), &labels, tree)?;
     Ok(RunInputs {
-        program,
+        program: Program { labels, ..program },
         script,
         commands,
     })

@@ -1,14 +1,13 @@
 //! The script that a run is given.
-ghost use Rattle.std.specs.Prelude.{[], option_map, unwrap_or};
 ghost use Rattle.uxn_inquiry.specs.Inquires.{Inquires, Says};
 ghost use Rattle.uxn_task_files.specs.Accepted.{script_of, validated_script};
 
-use super::inputs::{InputKind, read_requested};
+use super::inputs::{InputKind, read_text};
 use super::refusal::Refusal;
 use script_lines::{Script, ScriptStop, read_script};
 use std::alloc::Global;
 use uxn_inquiry::Halt;
-use uxn_io_traits::{Bytes, Path, Tree};
+use uxn_io_traits::{Path, Tree};
 
 /// The script of a text.
 pub fn validate_script(alloc: Global, text: &[u8]) -> Result<Script, Halt<Refusal>>
@@ -23,17 +22,7 @@ pub fn validate_script(alloc: Global, text: &[u8]) -> Result<Script, Halt<Refusa
     }
 }
 
-/// The script of a file; without one that of an empty text.
-fn said_script(alloc: Global, text: &Option<Bytes>) -> Result<Script, Halt<Refusal>>
-    ensures { Says (λ script. script) (validated_script (unwrap_or (option_map (λ text. text.list) text.now) [])) result }
-{
-    match text {
-        Some(text) => validate_script(alloc, text.as_slice()),
-        None => validate_script(alloc, b""),
-    }
-}
-
-/// The script that is requested.
+/// The script that is requested; without one that of an empty text.
 pub fn accept_script<T: Tree>(
     alloc: Global,
     path: &Option<Path>,
@@ -41,6 +30,9 @@ pub fn accept_script<T: Tree>(
 ) -> Result<Script, Halt<Refusal>>
     ensures { Inquires (λ script. script) (script_of path.now) (T.state tree.old) (T.state tree.new) result }
 {
-    let text = read_requested(alloc, InputKind::Script, path, tree)?;
-    said_script(alloc, &text)
+    let Some(path) = path else {
+        return validate_script(alloc, b"");
+    };
+    let text = read_text(alloc, InputKind::Script, path, tree)?;
+    validate_script(alloc, text.as_slice())
 }

@@ -535,10 +535,11 @@ root_view-files (Some nodes) made task out err apart is =
     inl (rw now (sym (ap (λ h. h.part) kept), sym (ap (λ h. h.parent) kept)))
 
 -- a machine that is ready runs the trace of its job
-module _ (run : RunTask) (asked : Option DebugTask) (before start made : TreeState) (prepared : Prepared)
-    (asks : Inquires (prepared_plan run) (plan_of (tasks.Run run asked)) before start (Ok prepared)) (of : IsReadyRun run asked prepared)
-    (apart : HasApartOutputs (tasks.Run run asked))
-    (makes : Made (model_of_program prepared.program).included (outputs_of (tasks.Run run asked)) start made) where
+module _ (run : RunTask) (asked : Option DebugTask) (before made : TreeState) (prepared : Prepared) (of : IsPreparedRun run asked before made prepared)
+    (apart : HasApartOutputs (tasks.Run run asked)) where
+  abbrev start : TreeState
+  start = of.start
+
   abbrev task : Task
   task = tasks.Run run asked
 
@@ -552,13 +553,13 @@ module _ (run : RunTask) (asked : Option DebugTask) (before start made : TreeSta
   ready_view = root_view_in start.contents run.root
 
   plan : IsPlanned start.contents task (prepared_plan run prepared)
-  plan = accepted-after (prepared_plan run) task before start prepared asks
+  plan = accepted-after (prepared_plan run) task before start prepared of.asks
 
   outputs : outputs_of task ≡ job_outputs ready_job
   outputs = plan-outputs start.contents task _ plan
 
   ready-trace : task_trace run prepared.machine.value ready_view ≡ trace_of start.contents ready_job
-  ready-trace = ap (reference_trace _ _ prepared.machine.value.script ready_view) of.core
+  ready-trace = ap (reference_trace _ _ prepared.machine.value.script ready_view) of.ready.core
 
   abbrev IsReadyOutput : List ℕ → Type 0
   IsReadyOutput path = IsOutput run.root made.contents path
@@ -566,7 +567,7 @@ module _ (run : RunTask) (asked : Option DebugTask) (before start made : TreeSta
   output-at : (path : List ℕ) → list_any (bytes_eq path) (job_outputs ready_job) ≡ true → IsReadyOutput path
   output-at path among =
       let here : list_any (bytes_eq path) (outputs_of task) ≡ true = rw outputs among in
-      record { file = makes.files path here; outside = outputs-outside task path apart here }
+      record { file = of.makes.files path here; outside = outputs-outside task path apart here }
 
   one-of : (file : Option (List ℕ)) → ((path : List ℕ) → list_any (bytes_eq path) (option_to_list file) ≡ true
       → list_any (bytes_eq path) (job_outputs ready_job) ≡ true) → IfSome file IsReadyOutput
@@ -583,13 +584,13 @@ module _ (run : RunTask) (asked : Option DebugTask) (before start made : TreeSta
   -- the run, behind outputs that were made
   module _ (out err : SinkState) (now : HostState) (refuses : run.root ≡ None → RefusesNone made now.tree) where
     begun : Done (creating_all (outputs_of task)) (outside start out err) (outside made out err)
-    begun = outside-of-tree (creating_all (outputs_of task)) false start made out err (made-of-tree (outputs_of task)) makes.did
+    begun = outside-of-tree (creating_all (outputs_of task)) false start made out err (made-of-tree (outputs_of task)) of.makes.did
 
     root_view : HasFiles made.contents run.root ready_view.part ready_view.parent ⊎ ((start.contents ≡ None) × IsSome run.root)
     root_view = root_view-files start.contents made.contents task out.contents err.contents apart begun.world
 
     given : Gives start.contents (inquiry_of (Ok task)) (Ok (Run ready_job))
-    given = plan-accepted start.contents task _ plan makes.free
+    given = plan-accepted start.contents task _ plan of.makes.free
 
     abbrev Went : Result RunEnd Stop → Type 0
     Went result = RunsFromRoot run.root (task_trace run prepared.machine.value) (logged_changes run prepared.machine.value debug) (IsSome debug)
@@ -609,7 +610,7 @@ module _ (run : RunTask) (asked : Option DebugTask) (before start made : TreeSta
         (outside start out err) (outside made out err) (observed_outside now) begun ran.made)
 
     none-refused : HasNoRoot (Ok task) → CreateRefused None start now.tree
-    none-refused none = refused-then None start made now.tree makes.refusals makes.did.counted.promise (refuses none).none
+    none-refused none = refused-then None start made now.tree of.makes.refusals of.makes.did.counted.promise (refuses none).none
 
     passes : (result : Result RunEnd Stop) → Went result → CountsRefusals (Ok task) start now.tree err now.err (run_answer result)
     passes (Ok end) runs =
@@ -640,4 +641,4 @@ module _ (run : RunTask) (asked : Option DebugTask) (before start made : TreeSta
     does-ready = grind (arith, root_view, does-contents, ready-trace, performs, ledger-then, begun, same-blame, passes)
 
     pub does-run : (result : Result RunEnd Stop) → Went result → DoesWork (Ok task) (host_state before out err) now (run_answer result)
-    does-run result runs = does-behind (prepared_plan run) task before start out err now (run_answer result) prepared asks (does-ready result runs)
+    does-run result runs = does-behind (prepared_plan run) task before start out err now (run_answer result) prepared of.asks (does-ready result runs)

@@ -12,4 +12,4 @@ returns c =
     let summary = run_summary c.args.source.now c.args.rom.now in
     let contents : summary c.in_ok-end.end c.run_rom.new.out.taken ≡ summary (run_end whole.last) (put_by whole.changes) =
     rw (ran.ends, ran.bytes) refl in
-    IfOk-weaker c.sum_up.result _ _ (λ text is. is ∙ ap summary_text contents) c.sum_up.ensures
+    IfOk-weaker c.summary.result _ _ (λ text is. is ∙ ap summary_text contents) (rw c.bytes.ensures at c.summary.ensures)

@@ -1,4 +1,5 @@
-use Rattle.uxn_task_files.proofs.Common.{rules, refl}
+use Rattle.uxn_task_files.proofs.Common.{ap, rules, refl}
+use Rattle.uxn_task_files.specs.Accepted.{Loaded}
 unfoldable use Rattle.uxn_task_files.proofs.Common.{files_of}
 use Rattle.uxn_task_files.proofs.StepLemmas.{step-stop, step-last, step-no-memory}
 use Rattle.uxn_task_files.proofs.assembling.assemble.Goals as goal
@@ -13,4 +14,4 @@ returns-in_err-outputs g c = step-no-memory _ _ _ _ _ _ _ _ (search rules) c.in_
 
 pub returns : goal.returns
 unfolding files_of
-returns g c = step-last _ _ _ _ _ _ _ _ c.in_ok-source.ensures.source (rw (c.in_ok-outputs.ensures, c.into_parts-included.ensures.paths) refl)
+returns g c = step-last _ _ _ _ _ _ _ _ c.in_ok-source.ensures.source (let is = c.from-program.ensures in rw (c.in_ok-outputs.ensures, ap (λ (l : Loaded). l.included) is) refl)

@@ -1,4 +1,5 @@
-use Rattle.uxn_task_files.proofs.Common.{Err, None, false, rules, true, ◌≡◌, drop_all, drop_more, appending}
+use Rattle.uxn_task_files.proofs.Common.{Err, None, TreeFault, false, rules, true, ◌≡◌, drop_all, drop_more, appending}
+use Rattle.uxn_task_files.specs.declared.refusal.Halt.TheVariants.{Stopped}
 use Rattle.uxn_task_files.proofs.DidLemmas.{did-nothing, did-first, did-then, file-there, files-then}
 use Rattle.uxn_task_files.proofs.outputs.fill_all.Goals as goal
 
@@ -15,7 +16,7 @@ returns-in_err-append_all g c =
     let output = c.output-item.result in
     let put = rw c.deref.ensures.value at c.in_err-append_all.ensures in
     let left = drop_more c.args.outputs.now c.loop-output.output-index output c.loop-output-test.true in
-    let result : c.from_residual.result ≡ Err c.in_err-append_all.field-0.0 = search rules in
+    let result : c.from_residual.result ≡ Err (Stopped TreeFault) = search rules in
     rw result (c.loop-output.invariant.rest true _ (rw (left, ← c.output-item.is) (did-first (appending output.path output.bytes.items) _ None _ _
     (record { done = put.ended; refusals = put.refused }))))
 

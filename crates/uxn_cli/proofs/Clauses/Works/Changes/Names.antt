@@ -38,7 +38,7 @@ pub use Rattle.uxn_cli.specs.Observation.{unwatched, watched, with_log, HaveSame
 pub use Rattle.uxn_cli.specs.Outcome.{line_exit, Outcome, outcome_of, reporting, run_changes, line_bytes, written_paths, root_of_work, IsOutputOf, GivesOutcome}
 unfoldable pub use Rattle.uxn_cli.specs.Outcome.{running}
 pub use Rattle.uxn_cli.specs.Outside.{DoesWork, HostState, host_state, observed_outside}
-pub use Rattle.uxn_cli.specs.Prepared.{IsPlanned, AreNew, IsReadyRun, prepared_debugging, prepared_job, prepared_plan, printed_plan}
+pub use Rattle.uxn_cli.specs.Prepared.{IsPlanned, AreNew, IsPreparedRun, prepared_debugging, prepared_job, prepared_plan, printed_plan}
 pub use Rattle.uxn_cli.specs.Refused.{HasNoRoot, AtMostOne, CountsRefusals, ReportsRefused}
 pub use Rattle.uxn_cli.specs.RunJob.{trace_of, RunJob, job_outputs, first_state, log_texts, RootView, Debugging, debugging, first_devices}
 pub use Rattle.uxn_cli.specs.RunJob.{root_view_in, no_root_view, common_lines, further_lines, wanted_outputs, run_end}
