@@ -25,10 +25,9 @@ fn is_plain(word: &[u8]) -> bool
 fn option_text(word: &[u8]) -> Option<&[u8]>
     ensures { option_map (λ text. text.now) result ≡ option_text word.now }
 {
-    if word.len() > 2 && &word[..2] == b"--".as_slice() {
-        Some(&word[2..])
-    } else {
-        None
+    match word {
+        [b'-', b'-', _, ..] => Some(&word[2..]),
+        _ => None,
     }
 }
 

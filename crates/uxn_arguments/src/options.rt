@@ -1,7 +1,7 @@
 //! The options of each command, and what each sets in the task that is requested.
 ghost use Rattle.std.specs.Prelude.{◌≡◌, ◌≤◌, IfOk, IfSome, option_map, option_and_then};
 ghost use Rattle.option_table.specs.Parsing.{found_value, table_choices};
-ghost use Rattle.uxn_arguments.specs.Options.{choices_of, debug_task, debugger_of, run_task, requested_run};
+ghost use Rattle.uxn_arguments.specs.Options.{choices_of, debug_task, run_task, requested_run};
 ghost use Rattle.uxn_arguments.specs.Options.{assemble_task, disassemble_task, requested_task, HasBudget};
 ghost use Rattle.uxn_arguments.specs.Values.{optional_path, requested_budget, requested_count, requested_path, required_path};
 ghost use Rattle.uxn_arguments.specs.ReadsArguments.{ReadsArguments};
@@ -143,24 +143,6 @@ fn debug_task(alloc: Global, found: &Found<'_>) -> Result<DebugTask, WordStop>
     })
 }
 
-/// What the debugger of a command is asked, where it has one.
-fn debugger(
-    alloc: Global,
-    command: Command,
-    found: &Found<'_>,
-) -> Result<Option<DebugTask>, WordStop>
-    ensures { ReadsArguments result (debugger_of command (found_value found.now)) }
-{
-    match command {
-        Command::Debug => debug_task(alloc, found).map(Some),
-        Command::Play
-        | Command::Assemble
-        | Command::Disassemble
-        | Command::Generate
-        | Command::Line => Ok(None),
-    }
-}
-
 /// What a run is asked.
 #[inline(never)]
 fn run_task(alloc: Global, found: &Found<'_>, budget: u32, file: Path) -> Result<RunTask, WordStop>
@@ -193,7 +175,10 @@ fn requested_run(alloc: Global, command: Command, found: &Found<'_>) -> Result<T
         return Err(WordStop::Refused(WordFault::NotUnderstood));
     };
     let file = required_path(alloc, found, OPERAND)?;
-    let debug = debugger(alloc, command, found)?;
+    let debug = match command {
+        Command::Debug => Some(debug_task(alloc, found)?),
+        _ => None,
+    };
     let run = run_task(alloc, found, budget, file)?;
     Ok(Task::Run(run, debug))
 }

@@ -2,7 +2,7 @@
 ghost use Rattle.std.specs.Prelude.{◌≡◌, ◌++◌, IfOk, OnOk, find, option_copied, option_to_list};
 ghost use Rattle.std.specs.List.{flat_map, list_any};
 ghost use Rattle.std.specs.Str.{bytes_eq};
-ghost use Rattle.uxn_arguments.specs.Options.{inputs_of, log_of, outputs_of, root_of, run_outputs};
+ghost use Rattle.uxn_arguments.specs.Options.{inputs_of, outputs_of, run_outputs};
 ghost use Rattle.uxn_arguments.specs.Places.{places_of, meets, clashes, first_clash};
 
 use std::alloc::{AllocError, Global};
@@ -83,7 +83,14 @@ impl Task {
         ensures { IfOk result (λ paths. paths.items ≡ inputs_of self.now) }
     {
         match self {
-            Task::Run(run, debug) => run_inputs(alloc, run, debug),
+            Task::Run(run, Some(debug)) => {
+                let commands = Some(debug.commands);
+                some_of(
+                    alloc,
+                    &[Some(run.file), commands, debug.symbols, run.script],
+                )
+            }
+            Task::Run(run, None) => some_of(alloc, &[Some(run.file), run.script]),
             Task::Assemble(task) => some_of(alloc, &[Some(task.file)]),
             Task::Disassemble(task) => some_of(alloc, &[Some(task.file), task.symbols]),
             Task::Generate(_) => Ok(Vec::new(alloc)),
@@ -97,7 +104,9 @@ impl Task {
     {
         match self {
             Task::Run(run, debug) => run_outputs(alloc, run, debug),
-            Task::Assemble(task) => assemble_outputs(alloc, task),
+            Task::Assemble(task) => {
+                some_of(alloc, &[Some(task.out), task.symbols, task.listing])
+            }
             Task::Disassemble(_) | Task::Generate(_) | Task::Line(_) => Ok(Vec::new(alloc)),
         }
     }
@@ -107,10 +116,11 @@ impl Task {
         requires { outputs.now ≡ outputs_of self.now }
         ensures { IfOk result (λ paths. paths.items ≡ places_of self.now) }
     {
-        let mut paths = Vec::new(alloc);
-        if let Task::Run(run, _) = self {
-            push_some(&mut paths, &run.root)?;
-        }
+        let root = match self {
+            Task::Run(run, _) => run.root,
+            _ => None,
+        };
+        let mut paths = some_of(alloc, &[root])?;
         paths.extend_from_slice(outputs)?;
         Ok(paths)
     }
@@ -147,34 +157,6 @@ fn some_of(alloc: Global, paths: &[Option<Path>]) -> Result<Vec<Path>, AllocErro
     Ok(found)
 }
 
-/// The files that a run reads. Errors when out of memory.
-fn run_inputs(
-    alloc: Global,
-    run: &RunTask,
-    debug: &Option<DebugTask>,
-) -> Result<Vec<Path>, AllocError>
-    ensures { IfOk result (λ paths. paths.items ≡ inputs_of (Task.Run run.now debug.now)) }
-{
-    let file = Some(run.file);
-    match debug {
-        Some(debug) => {
-            let commands = Some(debug.commands);
-            some_of(alloc, &[file, commands, debug.symbols, run.script])
-        }
-        None => some_of(alloc, &[file, run.script]),
-    }
-}
-
-/// The log of a debugger.
-fn log_of(debug: &Option<DebugTask>) -> Option<Path>
-    ensures { result ≡ log_of debug.now }
-{
-    match debug {
-        Some(debug) => Some(debug.log),
-        None => None,
-    }
-}
-
 /// The files that a run writes, in order. Errors when out of memory.
 pub fn run_outputs(
     alloc: Global,
@@ -183,15 +165,11 @@ pub fn run_outputs(
 ) -> Result<Vec<Path>, AllocError>
     ensures { IfOk result (λ paths. paths.items ≡ run_outputs run.now debug.now) }
 {
-    let log = log_of(debug);
+    let log = match debug {
+        Some(debug) => Some(debug.log),
+        None => None,
+    };
     some_of(alloc, &[log, run.frames, run.samples, run.report])
-}
-
-/// The files that are written out of a source, in order. Errors when out of memory.
-fn assemble_outputs(alloc: Global, task: &AssembleTask) -> Result<Vec<Path>, AllocError>
-    ensures { IfOk result (λ paths. paths.items ≡ outputs_of (Task.Assemble task.now)) }
-{
-    some_of(alloc, &[Some(task.out), task.symbols, task.listing])
 }
 
 /// Whether two paths are the same.

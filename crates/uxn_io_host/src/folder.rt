@@ -48,8 +48,34 @@ pub struct CurrentFolder<'a, R: Files> {
 }
 
 /// The text of a path.
-fn text(path: &Path) -> io::Result<&str> {
-    str::from_utf8(path.bytes()).map_err(|_| io::Error::from(ErrorKind::InvalidData))
+#[tactic(auto, using(crate::proofs::PathTexts::path_is_utf8))]
+fn text(path: &Path) -> &str {
+    str::from_utf8(path.bytes()).unwrap()
+}
+
+impl<F: Read + Write + Seek + Drop> OpenedFile<F> {
+    /// Some bytes of the file, from a place on: how many there are in the chunk.
+    fn read(&mut self, from: u64, chunk: &mut [u8; CHUNK]) -> io::Result<usize>
+        ensures { IfOk result (λ taken. taken ≤ 4096) }
+    {
+        if self.place != from {
+            self.file.seek(SeekFrom::Start(from))?;
+        }
+        let taken = self.file.read(chunk)?;
+        self.place = from.saturating_add(taken as u64);
+        Ok(taken)
+    }
+
+    /// Writes some bytes of the piece behind those of the file: how many.
+    fn append(&mut self, piece: &[u8]) -> io::Result<usize>
+        ensures { IfOk result (λ taken. (taken ≤ length piece.now) × (0 < length piece.now → 0 < taken)) }
+    {
+        let taken = self.file.write(piece)?;
+        if taken == 0 && !piece.is_empty() {
+            return Err(io::Error::from(ErrorKind::WriteZero));
+        }
+        Ok(taken)
+    }
 }
 
 impl<'a, R: Files> CurrentFolder<'a, R> {
@@ -71,29 +97,7 @@ impl<'a, R: Files> CurrentFolder<'a, R> {
         self.opened = None;
     }
 
-    /// Lets the file go that is open, unless it is the one at a path.
-    fn let_others_go(&mut self, path: &Path)
-        ensures faults { self.new.faults ≡ self.old.faults }
-        ensures refused { self.new.refused ≡ self.old.refused }
-    {
-        match &self.opened {
-            Some(opened) if opened.path == *path => {}
-            _ => self.opened = None,
-        }
-    }
-
-    /// The open file, if it is the one at a path and was opened for this; any other is dropped.
-    fn take_opened(&mut self, path: &Path, way: Way) -> Option<OpenedFile<R::File>>
-        ensures faults { self.new.faults ≡ self.old.faults }
-        ensures refused { self.new.refused ≡ self.old.refused }
-    {
-        match self.opened.take() {
-            Some(opened) if opened.path == *path && opened.way == way => Some(opened),
-            _ => None,
-        }
-    }
-
-    /// What was done, or one fault more.
+    /// What was done, or one fault more. After a fault no file is open.
     #[tactic(auto, using(uxn_io_traits::specs::UnknownLaws::nothing_counted, uxn_io_traits::specs::UnknownLaws::fault_counted))]
     fn counted<T>(&mut self, done: io::Result<T>) -> Result<T, Failed>
         ensures counted { Counted (exactly self.old.faults) (exactly self.new.faults) (is_err result) }
@@ -103,6 +107,7 @@ impl<'a, R: Files> CurrentFolder<'a, R> {
         match done {
             Ok(value) => Ok(value),
             Err(_) => {
+                self.let_go();
                 self.faults = self.faults.saturating_add(1);
                 Err(Failed)
             }
@@ -114,7 +119,7 @@ impl<R: Files> CurrentFolder<'_, R> {
     /// What stands at a path. A path through a file leads to nothing, and neither a file nor a folder
     /// is nothing.
     fn kind_of(&self, path: &Path) -> io::Result<Kind> {
-        match fs::metadata(self.rt, text(path)?) {
+        match fs::metadata(self.rt, text(path)) {
             Ok(metadata) if metadata.is_dir() => Ok(Kind::Folder),
             Ok(metadata) if metadata.is_file() => Ok(Kind::File(metadata.len())),
             Ok(_) => Ok(Kind::Missing),
@@ -125,66 +130,42 @@ impl<R: Files> CurrentFolder<'_, R> {
         }
     }
 
-    /// Whether the parent of a path is a folder.
-    fn has_parent(&self, path: &Path) -> io::Result<bool> {
-        match path.parent() {
-            Some(parent) => Ok(matches!(self.kind_of(&parent)?, Kind::Folder)),
-            None => Ok(true),
+    /// Opens the file at a path for this, if one is there and it is not open already. Any other is dropped first.
+    fn open(&mut self, path: &Path, way: Way) -> io::Result<()>
+        ensures faults { self.new.faults ≡ self.old.faults }
+        ensures refused { self.new.refused ≡ self.old.refused }
+    {
+        match &self.opened {
+            Some(opened) if opened.path == *path && opened.way == way => return Ok(()),
+            _ => self.let_go(),
         }
-    }
-
-    /// The file at a path opened for reading, if one is there.
-    fn open_to_read(&self, path: &Path) -> io::Result<Option<OpenedFile<R::File>>> {
-        if let Kind::Missing | Kind::Folder = self.kind_of(path)? {
-            return Ok(None);
+        if way == Way::Reads && !matches!(self.kind_of(path)?, Kind::File(_)) {
+            return Ok(());
         }
-        Ok(Some(OpenedFile {
+        let file = OpenOptions::new()
+            .read(way == Way::Reads)
+            .append(way == Way::Appends)
+            .open(self.rt, text(path))?;
+        self.opened = Some(OpenedFile {
             path: *path,
-            way: Way::Reads,
-            file: File::open(self.rt, text(path)?)?,
+            way,
+            file,
             place: 0,
-        }))
+        });
+        Ok(())
     }
 
-    /// The file at a path opened for appending.
-    fn open_to_append(&self, path: &Path) -> io::Result<OpenedFile<R::File>> {
-        Ok(OpenedFile {
-            path: *path,
-            way: Way::Appends,
-            file: OpenOptions::new().append(true).open(self.rt, text(path)?)?,
-            place: 0,
-        })
-    }
-
-    /// Some bytes of the file at a path, from a place on: how many there are in the chunk.
+    /// Some bytes of the file at a path, from a place on: how many there are in the chunk. None where no file is there.
     fn read_chunk(&mut self, path: &Path, from: u64, chunk: &mut [u8; CHUNK]) -> io::Result<usize>
         ensures count { IfOk result (λ taken. taken ≤ 4096) }
         ensures faults { self.new.faults ≡ self.old.faults }
         ensures refused { self.new.refused ≡ self.old.refused }
     {
-        let opened = match self.take_opened(path, Way::Reads) {
-            None => self.open_to_read(path)?,
-            opened => opened,
-        };
-        let Some(mut opened) = opened else {
-            return Ok(0);
-        };
-        if opened.place != from {
-            opened.file.seek(SeekFrom::Start(from))?;
+        self.open(path, Way::Reads)?;
+        match &mut self.opened {
+            Some(opened) => opened.read(from, chunk),
+            None => Ok(0),
         }
-        let taken = opened.file.read(chunk)?;
-        opened.place = from.saturating_add(taken as u64);
-        self.opened = Some(opened);
-        Ok(taken)
-    }
-
-    /// Makes the path an empty file, unless its parent is no folder or it is a folder.
-    fn create_file(&self, path: &Path) -> io::Result<bool> {
-        if !self.has_parent(path)? || matches!(self.kind_of(path)?, Kind::Folder) {
-            return Ok(false);
-        }
-        File::create(self.rt, text(path)?)?;
-        Ok(true)
     }
 
     /// Writes some bytes of the piece behind those of the file at a path: how many.
@@ -193,16 +174,24 @@ impl<R: Files> CurrentFolder<'_, R> {
         ensures faults { self.new.faults ≡ self.old.faults }
         ensures refused { self.new.refused ≡ self.old.refused }
     {
-        let mut opened = match self.take_opened(path, Way::Appends) {
-            Some(opened) => opened,
-            None => self.open_to_append(path)?,
-        };
-        let taken = opened.file.write(piece)?;
-        if taken == 0 && !piece.is_empty() {
-            return Err(io::Error::from(ErrorKind::WriteZero));
+        self.open(path, Way::Appends)?;
+        match &mut self.opened {
+            Some(opened) => opened.append(piece),
+            None => Err(io::Error::from(ErrorKind::NotFound)),
         }
-        self.opened = Some(opened);
-        Ok(taken)
+    }
+
+    /// Makes the path an empty file, unless its parent is no folder or it is a folder.
+    fn create_file(&self, path: &Path) -> io::Result<bool> {
+        let has_parent = match path.parent() {
+            Some(parent) => matches!(self.kind_of(&parent)?, Kind::Folder),
+            None => true,
+        };
+        if !has_parent || matches!(self.kind_of(path)?, Kind::Folder) {
+            return Ok(false);
+        }
+        File::create(self.rt, text(path))?;
+        Ok(true)
     }
 
     /// Takes the file at a path away, if one is there.
@@ -210,22 +199,19 @@ impl<R: Files> CurrentFolder<'_, R> {
         if !matches!(self.kind_of(path)?, Kind::File(_)) {
             return Ok(false);
         }
-        fs::remove_file(self.rt, text(path)?)?;
+        fs::remove_file(self.rt, text(path))?;
         Ok(true)
     }
 
-    /// What is listed of a name: nothing, where it or its place in the folder is no path, or neither a file
+    /// What is listed in a folder of what was found at a place: nothing, where the place is no path, or neither a file
     /// nor a folder is there.
-    fn entry(&self, folder: &Path, name: &str) -> io::Result<Option<Entry>>
+    fn entry(&self, folder: &Path, place: &str) -> io::Result<Option<Entry>>
         ensures { IfOk result (λ entry. IfSome entry IsEntry) }
     {
-        let Ok(name) = Path::read(name.as_bytes()) else {
+        let Ok(path) = Path::read(place.as_bytes()) else {
             return Ok(None);
         };
-        if name.parent().is_some() {
-            return Ok(None);
-        }
-        let Some(path) = folder.join(&name) else {
+        let Some(name) = path.name_in(folder) else {
             return Ok(None);
         };
         match self.kind_of(&path)? {
@@ -251,40 +237,30 @@ impl<R: Files> CurrentFolder<'_, R> {
             return Err(io::Error::from(ErrorKind::FileTooLarge));
         }
         *room -= 1;
-        let listed = self.entry(folder, found?.file_name())?;
-        if let Some(entry) = listed {
-            add(entries, entry)?;
+        let listed = self.entry(folder, found?.path().as_str())?;
+        match listed {
+            Some(entry) => add(entries, entry),
+            None => Ok(()),
         }
-        Ok(())
     }
 }
 
 impl<R: Files + AllocGlobal + Clone + Drop> CurrentFolder<'_, R> {
-    /// The entries of a folder, in byte order of their names.
-    fn list(&self, alloc: Global, folder: &Path) -> io::Result<Vec<Entry>>
-        ensures { IfOk result (λ entries. All IsEntry entries.items) }
-    {
-        let mut entries = Vec::new(alloc);
-        self.add_entries(&mut entries, folder)?;
-        sort(&mut entries)?;
-        Ok(entries)
-    }
-
-    /// Adds the entries of a folder, in the order in which they are found.
-    fn add_entries(&self, entries: &mut Vec<Entry>, folder: &Path) -> io::Result<()>
+    /// Adds the entries of a folder, in byte order of their names.
+    fn list(&self, entries: &mut Vec<Entry>, folder: &Path) -> io::Result<()>
         requires { All IsEntry entries.old.items }
         ensures { All IsEntry entries.new.items }
     {
         let mut room = MOST_ENTRIES;
-        for found in fs::read_dir(self.rt, text(folder)?)? {
+        for found in fs::read_dir(self.rt, text(folder))? {
             self.add_found(entries, folder, found, &mut room)?;
         }
-        Ok(())
+        Ok(sort(entries)?)
     }
 }
 
 /// Adds one more.
-fn add(entries: &mut Vec<Entry>, entry: Entry) -> Result<(), AllocError>
+fn add(entries: &mut Vec<Entry>, entry: Entry) -> io::Result<()>
     requires entry { IsEntry entry }
     requires entries { All IsEntry entries.old.items }
     ensures { All IsEntry entries.new.items }
@@ -319,9 +295,17 @@ impl<R: Files + AllocGlobal + Clone + Drop> Tree for CurrentFolder<'_, R> {
 
     #[tactic(auto, using(uxn_io_traits::specs::UnknownLaws::looked))]
     fn kind(&mut self, path: &Path) -> Result<Kind, Failed> {
-        self.let_others_go(path);
-        let kind = self.kind_of(path);
-        self.counted(kind)
+        match &self.opened {
+            Some(opened) if opened.path == *path => {}
+            _ => self.let_go(),
+        }
+        match self.kind_of(path) {
+            Ok(kind) => Ok(kind),
+            Err(_) => {
+                self.faults = self.faults.saturating_add(1);
+                Err(Failed)
+            }
+        }
     }
 
     #[tactic(auto, using(uxn_io_traits::specs::UnknownLaws::looked))]
@@ -359,13 +343,16 @@ impl<R: Files + AllocGlobal + Clone + Drop> Tree for CurrentFolder<'_, R> {
     #[tactic(auto, using(uxn_io_traits::specs::UnknownLaws::looked))]
     fn names(&mut self, alloc: Global, folder: &Path) -> Result<Vec<Entry>, NamesStop> {
         self.let_go();
-        match self.list(alloc, folder) {
-            Ok(entries) => Ok(entries),
-            Err(e) if e.kind() == ErrorKind::OutOfMemory => Err(NamesStop::NoMemory),
-            Err(_) => {
-                self.faults = self.faults.saturating_add(1);
-                Err(NamesStop::Failed)
-            }
+        let mut entries = Vec::new(alloc);
+        match self.list(&mut entries, folder) {
+            Ok(()) => Ok(entries),
+            Err(e) => match e.kind() {
+                ErrorKind::OutOfMemory => Err(NamesStop::NoMemory),
+                _ => {
+                    self.faults = self.faults.saturating_add(1);
+                    Err(NamesStop::Failed)
+                }
+            },
         }
     }
 }

@@ -1,6 +1,7 @@
 -- The source of a workload of so many routines (profile): a number is pushed, each routine adds its own to it, the sum is printed,
 -- and a frame is drawn over and over.
-use Rattle.std.specs.Prelude.{ℕ, zero, suc, ◌+◌, ◌*◌, ◌%◌, List, [], ◌++◌, codes, decimal}
+use Rattle.std.specs.Prelude.{ℕ, zero, suc, ◌+◌, ◌*◌, ◌%◌, List, [], ◌∷◌, ◌++◌, codes, decimal}
+use Rattle.std.specs.List.{concat}
 use Rattle.uxn_io_traits.specs.NumberText.{hex_of_short}
 
 -- the numbers: x(0) is the count of routines, and x(i + 1) = 25173 * x(i) + 13849 modulo 65536
@@ -18,7 +19,7 @@ drawn_call i = name_of i ++ codes "\n"
 
 -- the line of a routine, which adds a number
 abbrev pub routine : ℕ → ℕ → List ℕ
-routine i value = codes "@" ++ name_of i ++ codes " #" ++ hex_of_short value ++ codes " ADD2 JMP2r\n"
+routine i value = concat (codes "@" ∷ name_of i ∷ codes " #" ∷ hex_of_short value ∷ codes " ADD2 JMP2r\n" ∷ [])
 
 -- the first so many of them
 unfoldable pub calls : ℕ → List ℕ

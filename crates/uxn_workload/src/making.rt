@@ -1,9 +1,9 @@
 //! The source of a workload.
 ghost use Rattle.std.specs.Prelude.{◌≡◌, ◌+◌, ◌*◌, ◌%◌, ◌++◌, IfOk, OnOk};
-ghost use Rattle.uxn_workload.specs.Source.{name_of, drawn_call, calls, routine, routines, workload_source};
+ghost use Rattle.uxn_workload.specs.Source.{drawn_call, calls, routine, routines, workload_source};
 
 use std::alloc::{AllocError, Global};
-use uxn_io_traits::{decimal, hex_short};
+use uxn_io_traits::{append_pieces, decimal, hex_short};
 
 /// The number after this one.
 fn next_number(value: u16) -> u16
@@ -12,32 +12,30 @@ fn next_number(value: u16) -> u16
     value.wrapping_mul(25173).wrapping_add(13849)
 }
 
-/// Puts the name of a routine behind a text.
-#[tactic(auto, unfolding(crate::specs::Source::name_of))]
-fn push_name(text: &mut Vec<u8>, i: u16) -> Result<(), AllocError>
-    ensures { OnOk result (text.new.items ≡ text.old.items ++ name_of i) }
-{
-    text.extend_from_slice(b"w-")?;
-    text.extend_from_slice(&decimal(u64::from(i)))
-}
-
 /// Puts the line that calls a routine behind a text.
+#[tactic(auto, unfolding(crate::specs::Source::name_of))]
 fn push_call(text: &mut Vec<u8>, i: u16) -> Result<(), AllocError>
     ensures { OnOk result (text.new.items ≡ text.old.items ++ drawn_call i) }
 {
-    push_name(text, i)?;
-    text.extend_from_slice(b"\n")
+    append_pieces(text, &[b"w-", decimal(u64::from(i)).as_slice(), b"\n"])
 }
 
 /// Puts the line of a routine, which adds a number, behind a text.
+#[tactic(auto, unfolding(crate::specs::Source::name_of))]
 fn push_routine(text: &mut Vec<u8>, i: u16, value: u16) -> Result<(), AllocError>
     ensures { OnOk result (text.new.items ≡ text.old.items ++ routine i value) }
 {
-    text.extend_from_slice(b"@")?;
-    push_name(text, i)?;
-    text.extend_from_slice(b" #")?;
-    text.extend_from_slice(&hex_short(value))?;
-    text.extend_from_slice(b" ADD2 JMP2r\n")
+    let name = decimal(u64::from(i));
+    append_pieces(
+        text,
+        &[
+            b"@w-",
+            name.as_slice(),
+            b" #",
+            hex_short(value).as_slice(),
+            b" ADD2 JMP2r\n",
+        ],
+    )
 }
 
 /// Puts the lines that call the first `count` routines behind a text.
