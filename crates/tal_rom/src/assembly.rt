@@ -80,10 +80,7 @@ pub fn assemble(alloc: Global, source: &[u8]) -> Result<Assembly, AsmStop>
     let words = words(alloc, source)?;
     match in_one_pass(alloc, source, &words)? {
         Some(assembly) => Ok(assembly),
-        None => {
-            check_phases(alloc, source, &words)?;
-            unreachable!()
-        }
+        None => Err(check_phases(alloc, source, &words).unwrap_err()),
     }
 }
 
