@@ -157,6 +157,7 @@ fn check_phases(alloc: Global, source: &[u8], words: &[Word]) -> Result<(), AsmS
 
 /// In a source without a fault at most one word covers an address, and each word has as many bytes as
 /// its size says.
+#[tactic(auto, using(crate::proofs::AssemblyLemmas::sound_once))]
 pub fn words_cover_once()
     ensures { (source : List ℕ) → first_fault source ≡ None → CoverOnce source (layout source).labels (layout source).words }
 {}
