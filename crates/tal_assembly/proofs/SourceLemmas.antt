@@ -1,15 +1,15 @@
 -- What a source results in, by what splicing it results in.
-use Rattle.std.proofs.Common.{◌≡◌, List, ℕ, true, false, Option, Some, None, Result, Ok, Err, ap, sym, subst, ◌∙◌}
+use Rattle.std.proofs.Common.{◌≡◌, List, ℕ, true, false, Option, Some, None, Result, Ok, Err, sym, subst}
 use Rattle.std.specs.Prelude.{IsSome, IfSome, IfOk, is_none}
 use Rattle.std.proofs.lemmas.Bool.{and_parts}
 use Rattle.uxn_io_traits.specs.State.{TreeState}
 use Rattle.uxn_inquiry.specs.declared.halt.Halt.{Halt}
-use Rattle.uxn_inquiry.specs.declared.halt.Halt.TheVariants.{Refused}
+use Rattle.uxn_inquiry.specs.declared.halt.Halt.TheVariants.{Refused, TreeFault, NoMemory}
 use Rattle.uxn_inquiry.specs.Along.{Always}
 use Rattle.uxn_inquiry.specs.Inquiry.{Answer}
 use Rattle.uxn_inquiry.specs.InquiryLaws.{always-mapped}
 use Rattle.uxn_inquiry.specs.Inquires.{Inquires, Says, halt_as}
-use Rattle.uxn_inquiry.specs.Laws.{inquires-as, inquires-stop, inquires-last, inquires-said}
+use Rattle.uxn_inquiry.specs.Laws.{inquires-as, inquires-stop, inquires-last, inquires-said, inquires-no-memory}
 use Rattle.tal_words.specs.declared.span.Word.{Word}
 use Rattle.tal_words.specs.declared.fault.Fault.{Fault}
 use Rattle.tal_words.specs.Comments.{word_fault}
@@ -45,13 +45,15 @@ module _ (main source : List ℕ) (a : TreeState) where
         inquires-stop (λ (flat : Flat). flat) sourced_of _ (λ flat. Answer (flat_answer main flat)) a b (halt_as (met_fault main) halt)
         (inquires-as (met_fault main) (λ (flat : Flat). flat) (splice_inquiry main source) a b (Err halt) p)
 
-    pub flat-refused : (fault : IncludeFault) (word : List ℕ) (met : SourceFault) → word ≡ fault.word.items
-        → met ≡ include_source_fault main fault.origin fault.kind word
+    pub flat-refused : (fault : IncludeFault) (word : List ℕ) (stop : Halt SourceFault) → word ≡ fault.word.items
+        → Says sourced_of (Err (include_source_fault main fault.origin fault.kind word)) (Err stop)
         → Inquires (λ (flat : Flat). flat) (splice_inquiry main source) a b (Err (Refused fault))
-        → Inquires sourced_of (spliced_inquiry main source) a b (Err (Refused met))
-    flat-refused fault word met is_word is_met p =
-        let as_met : met_fault main fault ≡ met = sym (is_met ∙ ap (include_source_fault main fault.origin fault.kind) is_word) in
-        subst (λ found. Inquires sourced_of (spliced_inquiry main source) a b (Err (Refused found))) as_met (flat-halted (Refused fault) p)
+        → Inquires sourced_of (spliced_inquiry main source) a b (Err stop)
+    flat-refused fault word (Refused met) is_word says p =
+        let met_here : met_fault main fault ≡ met = cc in
+        subst (λ found. Inquires sourced_of (spliced_inquiry main source) a b (Err (Refused found))) met_here (flat-halted (Refused fault) p)
+    flat-refused fault word TreeFault is_word says p = elim says [ ]
+    flat-refused fault word NoMemory is_word says p = inquires-no-memory sourced_of sourced_of _ _ _ _ (flat-halted (Refused fault) p)
 
     pub flat-answered : (flat : Flat) (r : Result SourceView (Halt SourceFault))
         → Inquires (λ (flat : Flat). flat) (splice_inquiry main source) a b (Ok flat)

@@ -1,10 +1,11 @@
 //! What can be wrong with a source and its includes.
 
-ghost use Rattle.std.specs.Prelude.{◌≡◌, ◌++◌, IfOk};
+ghost use Rattle.std.specs.Prelude.{◌≡◌, ◌++◌, IfOk, Err};
 ghost use Rattle.uxn_io_traits.specs.ByteList.{tight};
 ghost use Rattle.tal_include.specs.Includes.{include_kind_name};
 ghost use Rattle.tal_assembly.specs.Lines.{file_text, message_of};
-ghost use Rattle.tal_assembly.specs.Sources.{include_source_fault, other_path, own_fault};
+ghost use Rattle.tal_assembly.specs.Sources.{include_source_fault, other_path, own_fault, sourced_of};
+ghost use Rattle.uxn_inquiry.specs.Inquires.{Says};
 
 use std::alloc::{AllocError, Global};
 use tal_include::{IncludeKind, Origin};
@@ -34,25 +35,6 @@ impl SourceFault {
             column: fault.column,
             kind: IncludeKind::Words(fault.kind),
             word: Bytes::new(alloc, fault_word(source, fault))?,
-        })
-    }
-
-    /// A fault at a word of a file.
-    pub(crate) fn new(
-        alloc: Global,
-        main: &Path,
-        origin: &Origin,
-        kind: IncludeKind,
-        word: &[u8],
-    ) -> Result<SourceFault, AllocError>
-        ensures { IfOk result (λ made. made ≡ include_source_fault main.now origin.now kind word.now) }
-    {
-        Ok(SourceFault {
-            file: other_path(main, &origin.path),
-            line: origin.line,
-            column: origin.column,
-            kind,
-            word: Bytes::new(alloc, word)?,
         })
     }
 
@@ -108,3 +90,25 @@ fn other_path(main: &Path, path: &Path) -> Option<Path>
 
 /// Why a source is not assembled.
 pub type SourceStop = Halt<SourceFault>;
+
+/// The refusal of a source at a word of a file, unless memory runs out.
+pub(crate) fn refused(
+    alloc: Global,
+    main: &Path,
+    origin: &Origin,
+    kind: IncludeKind,
+    word: &[u8],
+) -> SourceStop
+    ensures { Says sourced_of (Err (include_source_fault main.now origin.now kind word.now)) (Err result) }
+{
+    match Bytes::new(alloc, word) {
+        Ok(word) => Halt::Refused(SourceFault {
+            file: other_path(main, &origin.path),
+            line: origin.line,
+            column: origin.column,
+            kind,
+            word,
+        }),
+        Err(_) => Halt::NoMemory,
+    }
+}

@@ -1,6 +1,6 @@
 //! A source with its includes, assembled.
 
-ghost use Rattle.std.specs.Prelude.{◌≡◌, None, Ok, IfOk};
+ghost use Rattle.std.specs.Prelude.{◌≡◌, None, Ok, Err, IfOk};
 ghost use Rattle.uxn_inquiry.specs.Inquires.{Inquires, Says};
 ghost use Rattle.tal_words.specs.Faults.{fault_text};
 ghost use Rattle.tal_words.specs.Comments.{word_fault, words_of};
@@ -8,8 +8,8 @@ ghost use Rattle.tal_rom.specs.Assembly.{IsAssembled, first_fault};
 ghost use Rattle.tal_include.specs.declared.faults.IncludeKind.TheVariants.{Words};
 ghost use Rattle.tal_assembly.specs.Sources.{include_source_fault, flat_answer, origin_in, own_answer, source_inquiry, sourced_of, spliced_inquiry};
 
-use crate::fault::{SourceFault, SourceStop};
-use std::alloc::{AllocError, Global};
+use crate::fault::{SourceFault, SourceStop, refused};
+use std::alloc::Global;
 use std::marker::Model;
 use tal_include::{IncludeKind, Origin, SpliceStop, Spliced, splice_words, words_to_splice};
 use tal_rom::{Assembly, assemble};
@@ -95,8 +95,7 @@ fn read_spliced<T: Tree>(
     match splice_words(alloc, tree, main, source, words) {
         Ok(flat) => assemble_flat(alloc, main, flat),
         Err(SpliceStop::Refused(fault)) => {
-            let met = SourceFault::new(alloc, main, &fault.origin, fault.kind, &fault.word)?;
-            Err(SourceStop::Refused(met))
+            Err(refused(alloc, main, &fault.origin, fault.kind, &fault.word))
         }
         Err(SpliceStop::TreeFault) => Err(SourceStop::TreeFault),
         Err(SpliceStop::NoMemory) => Err(SourceStop::NoMemory),
@@ -136,30 +135,22 @@ fn assemble_flat(alloc: Global, main: &Path, flat: Spliced) -> Result<AssembledS
                 assembly,
             })
         }
-        Err(AsmStop::Refused(fault)) => {
-            let met = flat_fault(alloc, main, &flat, &fault)?;
-            Err(SourceStop::Refused(met))
-        }
+        Err(AsmStop::Refused(fault)) => Err(flat_refused(alloc, main, &flat, &fault)),
         Err(AsmStop::NoMemory) => Err(SourceStop::NoMemory),
     }
 }
 
-/// A fault of a flat text, at its word in the file where that stands.
-fn flat_fault(
-    alloc: Global,
-    main: &Path,
-    flat: &Spliced,
-    fault: &Fault,
-) -> Result<SourceFault, AllocError>
-    ensures { IfOk result (λ made. made
-        ≡ include_source_fault main.now (origin_in main.now flat.now fault.now.at) (Words fault.now.kind) (fault_text flat.now.text fault.now)) }
+/// The refusal of a flat text with a fault, at its word in the file where that stands, unless memory runs out.
+fn flat_refused(alloc: Global, main: &Path, flat: &Spliced, fault: &Fault) -> SourceStop
+    ensures { Says sourced_of (Err (include_source_fault main.now (origin_in main.now flat.now fault.now.at)
+        (Words fault.now.kind) (fault_text flat.now.text fault.now))) (Err result) }
 {
     let origin = flat.origin(fault.at).unwrap_or(Origin {
         path: *main,
         line: 1,
         column: 1,
     });
-    SourceFault::new(
+    refused(
         alloc,
         main,
         &origin,

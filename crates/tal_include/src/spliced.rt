@@ -147,8 +147,7 @@ impl Spliced {
     pub(crate) fn add_path(&mut self, path: &Path) -> Result<(), AllocError>
         ensures { OnOk result (self.new ≡ flat_with_path path.now self.old) }
     {
-        self.paths.push(*path)?;
-        Ok(())
+        self.paths.push(*path).map_err(AllocError::from)
     }
 }
 

@@ -267,8 +267,7 @@ impl Spliced {
         if self.is_long_with(at.text) {
             return Err(at.refused(IncludeKind::LongFlat));
         }
-        self.add_word(file, word, at.text)?;
-        Ok(())
+        self.add_word(file, word, at.text).map_err(SpliceStop::from)
     }
 
     /// Whether the flat text of a source with includes is too long with this word and its newline.

@@ -1,6 +1,6 @@
 //! Which `}` closes which lambda.
 
-ghost use Rattle.std.specs.Prelude.{◌≡◌, IfOk, OnOk, None, drop, reverse, slice_get, if◌then◌else◌};
+ghost use Rattle.std.specs.Prelude.{◌≡◌, IfOk, OnOk, None, reverse, slice_get, if◌then◌else◌};
 ghost use Rattle.tal_words.specs.Braces.{opens, closes};
 ghost use Rattle.tal_labels.specs.Answers.{waiting_step};
 ghost use Rattle.tal_labels.specs.Shapes.{closers_of as closers_among};
@@ -34,18 +34,10 @@ fn closer_at(text: &[u8], at: usize, waiting: &mut Vec<usize>) -> Result<Option<
         ≡ waiting_step at (opens text.now) (closes text.now) (reverse waiting.old.items)) }
 {
     if opens(text) {
-        return Ok(next_waiting(waiting));
+        return Ok(waiting.pop());
     }
     if closes(text) {
         waiting.push(at)?;
     }
     Ok(None)
-}
-
-/// Takes the next `}` that waits.
-fn next_waiting(waiting: &mut Vec<usize>) -> Option<usize>
-    ensures value { result ≡ slice_get (reverse waiting.old.items) 0 }
-    ensures rest { reverse waiting.new.items ≡ drop 1 (reverse waiting.old.items) }
-{
-    waiting.pop()
 }

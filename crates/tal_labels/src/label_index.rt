@@ -53,15 +53,13 @@ impl LabelIndex {
         ensures ok { OnOk result (self.new ≡ self.old ++ record { name = name.items; address = address } ∷ []) }
         ensures err { OnErr result (self.new ≡ self.old) }
     {
+        self.labels.reserve(1)?;
         let label = Label {
             name: Name::new(alloc, name.as_slice())?,
             address,
         };
-        self.labels.reserve(1)?;
         self.addresses.insert(name, address)?;
-        let Ok(()) = self.labels.push(label) else {
-            unreachable!()
-        };
+        self.labels.push_reserved(label);
         Ok(())
     }
 

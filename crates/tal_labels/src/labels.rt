@@ -54,9 +54,9 @@ pub fn defined_name(
     match form {
         Form::LabelDef => {
             let (_, name) = text.split_at(text.len().min(1));
-            Ok(Some(Vec::from_slice(alloc, name)?))
+            Vec::from_slice(alloc, name).map(Some)
         }
-        Form::SubDef => Ok(Some(full_name(alloc, scope, text)?)),
+        Form::SubDef => full_name(alloc, scope, text).map(Some),
         _ => Ok(None),
     }
 }
@@ -66,12 +66,7 @@ pub fn full_name(alloc: Global, scope: &[u8], name: &[u8]) -> Result<Vec<u8>, Al
     ensures { IfOk result (λ bytes. bytes.items ≡ full_name_in scope.now name.now) }
 {
     match name {
-        [b'&' | SLASH, rest @ ..] => {
-            let mut bytes = Vec::from_slice(alloc, scope)?;
-            bytes.push(SLASH)?;
-            bytes.extend_from_slice(rest)?;
-            Ok(bytes)
-        }
+        [b'&' | SLASH, rest @ ..] => [scope, &[SLASH], rest].as_slice().concat(alloc),
         _ => Vec::from_slice(alloc, name),
     }
 }

@@ -160,9 +160,7 @@ impl Placer {
         self.words.reserve(1)?;
         self.openers.reserve(1)?;
         define(&mut self.labels, self.alloc, name, placed.address)?;
-        let Ok(()) = self.words.push(placed) else {
-            unreachable!()
-        };
+        self.words.push_reserved(placed);
         let opener = match_brace(&mut self.openers, text, at);
         close(&mut self.words, opener, placed.address);
         self.scope = self.scope.after(source, placed.form, placed.word.text);
@@ -193,9 +191,7 @@ fn match_brace(openers: &mut Vec<usize>, text: &[u8], at: usize) -> Option<usize
     ensures rest { openers.new.items ≡ openers_step (opens_brace text.now) (closes_brace text.now) at openers.old.items }
 {
     if opens(text) {
-        let Ok(()) = openers.push(at) else {
-            unreachable!()
-        };
+        openers.push_reserved(at);
         return None;
     }
     if closes(text) {

@@ -9,7 +9,7 @@ ghost use Rattle.tal_rom.specs.PlainWords.{AssemblesTo};
 ghost use Rattle.tal_rom.specs.Rom.{rom_limit};
 ghost use Rattle.tal_listing.specs.LabelChains.{AreChained};
 ghost use Rattle.tal_listing.specs.Texts.{behind_name};
-ghost use Rattle.tal_listing.specs.Disassembly.{disassembly, immediate_length, instruction_items, label_item, label_items};
+ghost use Rattle.tal_listing.specs.Disassembly.{disassembly, immediate_length, instruction_items, label_items};
 
 use crate::chains::LabelChains;
 use std::alloc::{AllocError, Global};
@@ -87,17 +87,10 @@ fn append_label_lines(
 {
     let mut place = chains.first_of(labels, address);
     while place < labels.len() {
-        append_label_line(text, &labels[place])?;
+        append_pieces(text, &[b"( @", labels[place].name.bytes(), b" )\n"])?;
         place = chains.next_of(labels, place);
     }
     Ok(())
-}
-
-/// Appends the line of a label.
-fn append_label_line(text: &mut Vec<u8>, label: &Label) -> Result<(), AllocError>
-    ensures { OnOk result (text.new.items ≡ text.old.items ++ text_of_items (label_item label.now ∷ [])) }
-{
-    append_pieces(text, &[b"( @", label.name.bytes(), b" )\n"])
 }
 
 /// Appends the line of an instruction at an address.

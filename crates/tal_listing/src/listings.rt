@@ -1,15 +1,13 @@
 //! The listing of an assembly.
 
-ghost use Rattle.std.specs.Prelude.{◌≡◌, ◌≤◌, ◌<◌, ◌+◌, ◌++◌, codes, ℕ, List, ◌∷◌, [], None, Ok, IfOk, OnOk};
+ghost use Rattle.std.specs.Prelude.{◌≡◌, ◌≤◌, ◌<◌, ◌+◌, ◌++◌, ℕ, List, ◌∷◌, [], None, Ok, IfOk, OnOk};
 ghost use Rattle.tal_rom.specs.Assembly.{IsAssembled, first_fault};
-ghost use Rattle.tal_words.specs.Source.{bytes_at};
-ghost use Rattle.tal_listing.specs.Listing.{listing_of, memory_bytes, spaced_bytes, position_text, word_line, HoldsItsWords};
+ghost use Rattle.tal_listing.specs.Listing.{listing_of, memory_bytes, spaced_bytes, word_line, HoldsItsWords};
 ghost use Rattle.tal_rom.specs.Rom.{rom_limit};
 
 use std::alloc::{AllocError, Global};
 use tal_labels::PlacedWord;
 use tal_rom::Assembly;
-use tal_words::Expanded;
 use uxn_io_traits::{append_pieces, decimal, hex_byte, hex_short};
 use uxn_limits::addresses;
 
@@ -53,23 +51,15 @@ fn append_word_line(
         (word.address - addresses::FIRST_ADDRESS) as usize,
         word.size,
     )?;
-    append_source_word(text, source, &word.word)
-}
-
-/// Appends where the source has the word from which a word came, and the word itself.
-fn append_source_word(text: &mut Vec<u8>, source: &[u8], word: &Expanded) -> Result<(), AllocError>
-    ensures { OnOk result (text.new.items
-        ≡ text.old.items ++ (codes "  " ++ position_text word.now.origin ++ 32 ∷ bytes_at source.now word.now.text ++ 10 ∷ [])) }
-{
     append_pieces(
         text,
         &[
             b"  ",
-            decimal(word.origin.line as u64).as_slice(),
+            decimal(word.word.origin.line as u64).as_slice(),
             b":",
-            decimal(word.origin.column as u64).as_slice(),
+            decimal(word.word.origin.column as u64).as_slice(),
             b" ",
-            word.text.text(source),
+            word.word.text.text(source),
             b"\n",
         ],
     )

@@ -131,11 +131,8 @@ module _ (labels : List Label) (hole : Hole) (full name : List ℕ) where
   abbrev waiting : List Hole
   waiting = cond (is_some (address_named labels name)) [] (holes_by (Refer hole.rune) hole.address (bytes_eq name full))
 
-  pub none_waits : (target : ℕ) → address_named labels full ≡ Some target → waiting ≡ []
-  none_waits target e = grind (arith, (bytes_eq-Decides name full).0)
-
-  pub one_waits : address_named labels full ≡ None → waiting ≡ cond (bytes_eq name full) (hole ∷ []) []
-  one_waits e = grind (arith, (bytes_eq-Decides name full).0)
+  pub named_waits : waiting ≡ cond (bytes_eq name full) (cond (is_some (address_named labels full)) [] (hole ∷ [])) []
+  named_waits = grind (arith, (bytes_eq-Decides name full).0)
 
 length-filled : (target : ℕ) (holes : List Hole) (memory : List ℕ) → length (fold (filled_hole target) memory holes) ≡ length memory
 length-filled target [] memory = refl

@@ -81,10 +81,7 @@ pub fn assemble(alloc: Global, source: &[u8]) -> Result<Assembly, AsmStop>
     let words = words(alloc, source)?;
     match in_one_pass(alloc, source, &words)? {
         Some(assembly) => Ok(assembly),
-        None => {
-            check_phases(alloc, source, &words)?;
-            unreachable!()
-        }
+        None => Err(check_phases(alloc, source, &words).unwrap_err()),
     }
 }
 
@@ -168,6 +165,7 @@ fn check_phases(alloc: Global, source: &[u8], words: &[Word]) -> Result<(), AsmS
 
 /// In a source without a fault at most one word covers an address, and each word has as many bytes as
 /// its size says.
+#[tactic(auto, using(crate::proofs::AssemblyLemmas::sound_once))]
 pub fn words_cover_once()
     ensures { (source : List ℕ) → first_fault source ≡ None → CoverOnce source (layout source).labels (layout source).words }
 {}

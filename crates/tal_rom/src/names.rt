@@ -1,6 +1,6 @@
 //! Full names, with their addresses or with the references that wait for them.
 
-ghost use Rattle.std.specs.Prelude.{◌≡◌, ◌∷◌, [], ◌++◌, None, Some, ℕ, List, OnOk, OnErr, IfOk, if◌then◌else◌};
+ghost use Rattle.std.specs.Prelude.{◌≡◌, ◌∷◌, [], ◌++◌, None, Some, ℕ, List, OnOk, OnErr, IfOk, if◌then◌else◌, is_some};
 ghost use Rattle.std.specs.Str.{bytes_eq};
 ghost use Rattle.tal_rom.specs.Holes.{known_in, wanted_in};
 
@@ -25,34 +25,35 @@ impl Names {
         }
     }
 
-    /// The address of a full name that is defined.
-    pub fn address_of(&self, name: &[u8]) -> Option<u16>
-        ensures { result ≡ known_in self.now name.now }
-    {
-        match self.entries.get(name) {
-            Some(named) => named.address,
-            None => None,
-        }
-    }
-
-    /// Adds a reference that waits for a full name, which is not defined.
-    pub fn want(&mut self, alloc: Global, name: Vec<u8>, hole: Hole) -> Result<(), AllocError>
-        requires { known_in self.old name.items ≡ None }
+    /// The address of a full name that is defined; where it is not, the reference waits for it.
+    pub fn refer(
+        &mut self,
+        alloc: Global,
+        name: Vec<u8>,
+        hole: Hole,
+    ) -> Result<Option<u16>, AllocError>
+        ensures value { IfOk result (λ address. address ≡ known_in self.old name.items) }
         ensures known { (other : List ℕ) → known_in self.new other ≡ known_in self.old other }
-        ensures ok { OnOk result ((other : List ℕ) → wanted_in self.new other
-            ≡ wanted_in self.old other ++ (if bytes_eq other name.items then hole ∷ [] else [])) }
+        ensures ok { OnOk result ((other : List ℕ) → wanted_in self.new other ≡ wanted_in self.old other
+            ++ (if bytes_eq other name.items then if is_some (known_in self.old name.items) then [] else hole ∷ [] else [])) }
         ensures err { OnErr result ((other : List ℕ) → wanted_in self.new other ≡ wanted_in self.old other) }
     {
-        if let Some(named) = self.entries.get_mut(name.as_slice()) {
-            named.holes.push(hole)?;
-            return Ok(());
+        match self.entries.get_mut(name.as_slice()) {
+            Some(named) => {
+                if named.address.is_none() {
+                    named.holes.push(hole)?;
+                }
+                Ok(named.address)
+            }
+            None => {
+                let named = Named {
+                    address: None,
+                    holes: vec![in alloc; hole]?,
+                };
+                self.entries.insert(name, named)?;
+                Ok(None)
+            }
         }
-        let named = Named {
-            address: None,
-            holes: vec![in alloc; hole]?,
-        };
-        self.entries.insert(name, named)?;
-        Ok(())
     }
 
     /// Defines a full name, and gives the references that waited for it.

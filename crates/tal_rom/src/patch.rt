@@ -24,8 +24,10 @@ use uxn_limits::addresses;
 #[derive(Drop)]
 pub struct Patch {
     memory: Vec<u8>,
-    waiting: u32,
-    fits: bool,
+    /// How many references wait.
+    pub(crate) waiting: u32,
+    /// Whether all relative bytes whose targets are known fit.
+    pub(crate) fits: bool,
     names: Names,
     openers: Vec<Hole>,
 }
@@ -58,6 +60,7 @@ fn zeros(alloc: Global) -> Result<Vec<u8>, AllocError>
 
 impl Patch {
     /// Memory of zeros, to which no word was added.
+    #[tactic(auto, unfolding(crate::specs::Rom::byte_at))]
     pub fn new(alloc: Global) -> Result<Patch, AllocError>
         ensures { IfOk result (λ patch. (source : List ℕ) → PatchHolds (record { source = source; labels = []; words = []; openers = [] }) patch) }
     {
@@ -68,20 +71,6 @@ impl Patch {
             names: Names::new(alloc),
             openers: Vec::new(alloc),
         })
-    }
-
-    /// How many references wait.
-    pub fn waiting(&self) -> u32
-        ensures { result ≡ self.now.waiting }
-    {
-        self.waiting
-    }
-
-    /// Whether all relative bytes whose targets are known fit.
-    pub fn fits(&self) -> bool
-        ensures { result ≡ self.now.fits }
-    {
-        self.fits
     }
 
     /// All of memory.
@@ -153,17 +142,11 @@ impl Patch {
             → PatchHolds model self.old → PatchHolds (with_word false placed model) self.new) }
         ensures err { OnErr result ((model : PatchModel) → PatchHolds model self.old → PatchHolds model self.new) }
     {
-        match self.names.address_of(name.as_slice()) {
-            Some(target) => {
-                self.fill(hole, target);
-                Ok(())
-            }
-            None => {
-                self.names.want(alloc, name, hole)?;
-                self.waiting = self.waiting.saturating_add(1);
-                Ok(())
-            }
+        match self.names.refer(alloc, name, hole)? {
+            Some(target) => self.fill(hole, target),
+            None => self.waiting = self.waiting.saturating_add(1),
         }
+        Ok(())
     }
 
     /// Defines a full name that is new, and fills the references that waited for it.

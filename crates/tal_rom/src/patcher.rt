@@ -113,17 +113,19 @@ impl Patcher {
     }
 
     /// How many of the words added so far wait for their target.
+    #[tactic(auto, unfolding(crate::specs::Patching::waiting_count, crate::specs::Patching::added_of))]
     pub fn waiting(&self) -> u32
         ensures { (source : List ℕ) (words : List ExpandedWord) → WerePatched source words self.now → result ≡ waiting_count source words }
     {
-        self.patch.waiting()
+        self.patch.waiting
     }
 
     /// Whether each word added so far that does not wait fits.
+    #[tactic(auto, unfolding(crate::specs::Patching::all_fit, crate::specs::Patching::added_of))]
     pub fn fits(&self) -> bool
         ensures { (source : List ℕ) (words : List ExpandedWord) → WerePatched source words self.now → result ≡ all_fit source words }
     {
-        self.patch.fits()
+        self.patch.fits
     }
 
     /// The 65,280 bytes from the address 0100 on: those of the words added so far that do not wait and that fit, and

@@ -11,6 +11,7 @@ ghost use Rattle.tal_rom.specs.PlainWords.{AssemblesTo};
 /// A text of the word `|0100`, of plain words that are opcodes, bytes and shorts, and of comments assembles to the
 /// bytes of these words without the zeros at the end, where it is no longer than a source may be and
 /// they are no more than a ROM may have.
+#[tactic(auto, using(crate::proofs::PlainLemmas::plain_assembles))]
 pub fn plain_words_assemble_to_their_bytes()
     ensures { (items : List Item) (coded : List Coded) → AreItems items
         → words_of_items items ≡ pad_text ∷ texts_of_coded coded → AllByRecursion RepresentsWord coded

@@ -1,7 +1,4 @@
-use Rattle.std.proofs.lemmas.Result.{err_from_is_err_and}
-use Rattle.uxn_inquiry.specs.declared.halt.Halt.TheVariants.{Refused, TreeFault, NoMemory}
-use Rattle.uxn_inquiry.specs.Laws.{inquires-no-memory}
-use Rattle.tal_assembly.specs.Sources.{sourced_of}
+use Rattle.uxn_inquiry.specs.declared.halt.Halt.TheVariants.{TreeFault, NoMemory}
 use Rattle.tal_assembly.proofs.SourceLemmas.{flat-halted, flat-refused, flat-answered}
 use Rattle.tal_assembly.proofs.source.read_spliced.Goals as goal
 
@@ -9,19 +6,10 @@ pub returns-in-Ok-clause-answer : goal.returns-in-Ok-clause-answer
 returns-in-Ok-clause-answer g c =
     flat-answered c.args.main.now c.args.source.now _ _ c.in-Ok.flat c.assemble_flat.result c.in-Ok.ensures c.assemble_flat.ensures.answer
 
-pub returns-in_err-met-in-Err-Refused-clause-answer : goal.returns-in_err-met-in-Err-Refused-clause-answer
-returns-in_err-met-in-Err-Refused-clause-answer g c =
-    let p = err_from_is_err_and c.from_residual.result c.from_residual.ensures.1 in
-    rw (p.1, p.2)
-    (inquires-no-memory sourced_of sourced_of _ _ _ _
-    (flat-halted c.args.main.now c.args.source.now _ _ (Refused c.in-Err-Refused.fault)
-    (rw c.in-Err-Refused.field-0-is at c.in-Err-Refused.ensures)))
-
-pub returns-in_ok-met-in-Err-Refused-clause-answer : goal.returns-in_ok-met-in-Err-Refused-clause-answer
-returns-in_ok-met-in-Err-Refused-clause-answer g c =
-    flat-refused c.args.main.now c.args.source.now _ _ c.in-Err-Refused.fault
-    c.deref.result.now c.in_ok-met-in-Err-Refused.met c.deref.ensures.0 c.in_ok-met-in-Err-Refused.ensures
-    (rw c.in-Err-Refused.field-0-is at c.in-Err-Refused.ensures)
+pub returns-in-Err-Refused-clause-answer : goal.returns-in-Err-Refused-clause-answer
+returns-in-Err-Refused-clause-answer g c =
+    flat-refused c.args.main.now c.args.source.now _ _ c.in-Err-Refused.fault c.deref.result.now c.refused.result
+    c.deref.ensures.0 c.refused.ensures (rw c.in-Err-Refused.field-0-is at c.in-Err-Refused.ensures)
 
 pub returns-in-Err-TreeFault-clause-answer : goal.returns-in-Err-TreeFault-clause-answer
 returns-in-Err-TreeFault-clause-answer g c =

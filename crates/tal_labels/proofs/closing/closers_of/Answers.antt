@@ -24,4 +24,6 @@ loop-at-preserved c =
 
 pub returns : goal.returns
 unfolding closers_of
-returns c = grind (arith, c.reverse.ensures.items, c.loop-at.invariant.closers)
+returns c =
+    let first : c.loop-at.at ≡ 0 = omega arith in
+    c.reverse.ensures.items ∙ rw first at c.loop-at.invariant.closers

@@ -10,4 +10,4 @@ invariant_of-self-2 c =
     ∙ labels-insert c.self.inside.addresses name c.args.address fresh
     ∙ ap (λ labels. labels ++ label_of_entry (name, c.args.address) ∷ []) (c.self.invariant ∙ sym c.reserve.ensures.items)
     ∙ ap (λ bytes. c.reserve.new.self.items ++ record { name = bytes; address = c.args.address } ∷ []) (sym (c.in_ok-new.ensures ∙ c.as_slice.ensures.value))
-    ∙ sym c.in-Ok.ensures.items
+    ∙ sym c.push_reserved.ensures.items

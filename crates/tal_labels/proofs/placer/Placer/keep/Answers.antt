@@ -6,7 +6,7 @@ next_top-self-requires c = c.requires.within
 
 pub returns-clause-ok : goal.returns-clause-ok
 returns-clause-ok c = rw (← c.requires.here) (record {
-  words = rw (c.close.ensures, c.match_brace-opener.ensures.value, c.reserve-2.ensures.items, c.in-Ok.ensures.items, c.reserve.ensures.items) refl;
+  words = rw (c.close.ensures, c.match_brace-opener.ensures.value, c.reserve-2.ensures.items, c.push_reserved.ensures.items, c.reserve.ensures.items) refl;
   labels = c.in_ok-define.ensures.ok;
   openers =
       let at : c.len-at.result ≡ length c.args.self.now.words.items = omega arith in
