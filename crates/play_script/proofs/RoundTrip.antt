@@ -31,8 +31,7 @@ use Rattle.play_script.specs.PlainText.{line_text, plain_text}
 use Rattle.script_lines.specs.Rows.{Meaning, version, clock, arguments, event, rows_of, device_of, events_of_line, script_meaning_of, version_of}
 use Rattle.script_lines.specs.Rows.{clock_of_values, keys_of, expect_of, buttons_of, mouse_buttons_of, mouse_of, scroll_of, script_line_of}
 use Rattle.script_lines.specs.PlainEvents.{plain_event}
-use Rattle.script_lines.specs.Scripts.{ScriptView, script_with, arguments_in, events_in, script_fault, script_from, script_of, version_at}
-use Rattle.script_lines.specs.Scripts.{version_in}
+use Rattle.script_lines.specs.Scripts.{ScriptView, script_with, arguments_in, events_in, script_fault, script_from, script_of, version_at, version_in}
 use Rattle.script_lines.specs.Values.{texts_of_values, one_or}
 use Rattle.text_lines.specs.Named.{value_named}
 use Rattle.text_lines.specs.Rows.{keyword_of}

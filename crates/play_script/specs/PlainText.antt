@@ -20,7 +20,7 @@ use Rattle.script_lines.specs.Scripts.{ScriptView}
 abbrev pub text_word : List ℕ → List ℕ
 text_word bytes = if length bytes == 0 then codes "\"" else encode_lower bytes
 
--- the name of a button: that of the first row with its bit
+-- the name of a button
 unfoldable pub name_in : Named ℕ → ℕ → List ℕ
 name_in table mask = unwrap_or (option_map (λ row. row.0.now) (find (λ row. row.1 == mask) table)) []
 

@@ -1,16 +1,29 @@
 //! The names of buttons.
 
 ghost use Rattle.std.specs.Prelude.{◌≡◌, find, option_copied, ◌==◌};
-ghost use Rattle.text_lines.specs.Named.{named_in};
+ghost use Rattle.script_lines.specs.declared.values.TheConstants.{BUTTONS, MOUSE_BUTTONS};
 ghost use Rattle.play_script.specs.PlainText.{name_in};
 
+use script_lines::{BUTTONS, MOUSE_BUTTONS};
 use text_lines::Named;
 
-// The name in the first row with this bit, or nothing.
-pub(crate) fn name_in(rows: &'static [Named<u8>], mask: u8) -> &'static [u8]
-    ensures { result.now ≡ name_in (named_in rows.now) mask }
+// The name of the controller's button with this bit, or nothing.
+#[tactic(auto, unfolding(crate::specs::PlainText::name_in))]
+pub(crate) fn button_name(mask: u8) -> &'static [u8]
+    ensures { result.now ≡ name_in BUTTONS mask }
 {
-    match row_of_bit(rows, mask) {
+    match row_of_bit(BUTTONS.as_slice(), mask) {
+        Some(row) => row.0.as_bytes(),
+        None => b"".as_slice(),
+    }
+}
+
+// The name of the mouse's button with this bit, or nothing.
+#[tactic(auto, unfolding(crate::specs::PlainText::name_in))]
+pub(crate) fn mouse_button_name(mask: u8) -> &'static [u8]
+    ensures { result.now ≡ name_in MOUSE_BUTTONS mask }
+{
+    match row_of_bit(MOUSE_BUTTONS.as_slice(), mask) {
         Some(row) => row.0.as_bytes(),
         None => b"".as_slice(),
     }

@@ -14,10 +14,10 @@ ghost use Rattle.script_lines.specs.Scripts.{ScriptView, script_of};
 ghost use Rattle.script_lines.specs.declared.script.Event.TheVariants.{Device};
 ghost use Rattle.script_lines.specs.declared.script.Version.TheVariants.{First, Second};
 
-use crate::names::name_in;
+use crate::names::{button_name, mouse_button_name};
 use input_ports::Input;
 use script_lines::Value::{self, Button, Byte, Minutes, MouseButton, Pixel, Player, Seconds, Turn};
-use script_lines::{BUTTONS, Clock, Event, MOUSE_BUTTONS, Script, Version};
+use script_lines::{Clock, Event, Script, Version};
 use std::alloc::{AllocError, Global};
 use uxn_io_traits::{Bytes, decimal};
 
@@ -187,8 +187,8 @@ fn put_value(text: &mut Vec<u8>, value: Value) -> Result<(), AllocError>
 {
     match value {
         Byte(byte) => text.extend_from_slice(pair(byte).as_slice()),
-        Button(mask) => text.extend_from_slice(name_in(BUTTONS.as_slice(), mask)),
-        MouseButton(mask) => text.extend_from_slice(name_in(MOUSE_BUTTONS.as_slice(), mask)),
+        Button(mask) => text.extend_from_slice(button_name(mask)),
+        MouseButton(mask) => text.extend_from_slice(mouse_button_name(mask)),
         Player(number) => put_number(text, u64::from(number)),
         Pixel(at) => put_number(text, u64::from(at)),
         Turn(steps) => put_signed(text, i64::from(steps)),

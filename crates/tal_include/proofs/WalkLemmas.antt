@@ -7,8 +7,7 @@ use Rattle.uxn_inquiry.specs.declared.halt.Halt.{Halt}
 use Rattle.uxn_inquiry.specs.Inquiry.{Answer, and_then, through}
 use Rattle.uxn_inquiry.specs.Inquires.{Inquires, Says}
 use Rattle.uxn_inquiry.specs.Leads.{Leads, Here}
-use Rattle.uxn_inquiry.specs.Laws.{leads-more, leads-end, leads-stop, leads-step, leads-refused, inquires-said, through-more}
-use Rattle.uxn_inquiry.specs.Laws.{through-stop}
+use Rattle.uxn_inquiry.specs.Laws.{leads-more, leads-end, leads-stop, leads-step, leads-refused, inquires-said, through-more, through-stop}
 use Rattle.tal_words.specs.declared.span.Word.{Word}
 use Rattle.tal_words.specs.Source.{word_text}
 use Rattle.uxn_limits.specs.declared.limits.TheConstants.{INCLUDE_DEPTH}

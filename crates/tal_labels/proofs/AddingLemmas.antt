@@ -1,9 +1,8 @@
 -- Words that are added one by one: their faults, and what is kept of them.
 use Rattle.std.specs.Prelude.{slice_get}
 use Rattle.std.specs.Option.{option_map, option_or}
-use Rattle.tal_labels.proofs.Common.{no_kind}
-use Rattle.tal_labels.proofs.Common.{◌≡◌, ℕ, ◌+◌, ◌<◌, Bool, true, false, not, List, [], ◌∷◌, ◌++◌, length, take, drop, get_or, Option, Some, None}
-use Rattle.tal_labels.proofs.Common.{Ok, Result, cond, ◌&&◌, refl, sym, ◌∙◌, ap, arith, is_some, Expanded, Fault, FaultKind, Form, fault_at}
+use Rattle.tal_labels.proofs.Common.{no_kind, ◌≡◌, ℕ, ◌+◌, ◌<◌, Bool, true, false, not, List, [], ◌∷◌, ◌++◌, length, take, drop, get_or, Option, Some}
+use Rattle.tal_labels.proofs.Common.{None, Ok, Result, cond, ◌&&◌, refl, sym, ◌∙◌, ap, arith, is_some, Expanded, Fault, FaultKind, Form, fault_at}
 use Rattle.tal_labels.proofs.Common.{phase_fault, form, opens, each, collected, expanded_text, each-step, each-more, no_word, fault-later}
 use Rattle.tal_labels.proofs.Common.{fault-behind, fault-prefix, fault_or-none, shape_kinds, open_count, closing_distance, validated_shape}
 use Rattle.tal_labels.proofs.Common.{shape_fault, validated_place, placing_fault, place_fault, shape_added, adding_kinds, validated_added}

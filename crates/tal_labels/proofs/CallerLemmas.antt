@@ -1,11 +1,10 @@
 -- What a caller of `place` cites: each word of a layout without a fault.
-use Rattle.tal_labels.proofs.Common.{no_kind}
-use Rattle.tal_labels.proofs.Common.{◌≡◌, ℕ, zero, suc, ◌+◌, ◌<◌, ◌≤◌, inl, inr, true, false, List, [], ◌∷◌, ◌++◌, length, take, drop, get_or, None}
-use Rattle.tal_labels.proofs.Common.{map, length-map, ap, Ok, refl, arith, append_assoc, append-nil, is_some, ◌||◌, list_any, ltb, ltb-false, lt-ltb}
-use Rattle.tal_labels.proofs.Common.{cases_lt, take_more, Expanded, Form, form, size, PlacedWord, collected, expanded_text, address_after}
-use Rattle.tal_labels.proofs.Common.{defined_name, scope_after, labels_of, open_count, closing_distance, validated_shape, shape_fault, is_mark_form}
-use Rattle.tal_labels.proofs.Common.{is_defined, ends_above, validated_place, placing_fault, place_fault, lambda_address, placed_given, placed_of}
-use Rattle.tal_labels.proofs.Common.{ends_given, ends_of, LieApart, open_word, no_word}
+use Rattle.tal_labels.proofs.Common.{no_kind, ◌≡◌, ℕ, zero, suc, ◌+◌, ◌<◌, ◌≤◌, inl, inr, true, false, List, [], ◌∷◌, ◌++◌, length, take, drop}
+use Rattle.tal_labels.proofs.Common.{get_or, None, map, length-map, ap, Ok, refl, arith, append_assoc, append-nil, is_some, ◌||◌, list_any, ltb}
+use Rattle.tal_labels.proofs.Common.{ltb-false, lt-ltb, cases_lt, take_more, Expanded, Form, form, size, PlacedWord, collected, expanded_text}
+use Rattle.tal_labels.proofs.Common.{address_after, defined_name, scope_after, labels_of, open_count, closing_distance, validated_shape, shape_fault}
+use Rattle.tal_labels.proofs.Common.{is_mark_form, is_defined, ends_above, validated_place, placing_fault, place_fault, lambda_address, placed_given}
+use Rattle.tal_labels.proofs.Common.{placed_of, ends_given, ends_of, LieApart, open_word, no_word}
 use Rattle.tal_labels.proofs.LayingLemmas.{IsWellPlaced, well_placed, ends_of-append, or_false, each-none, has_form}
 
 -- each of the words has a form

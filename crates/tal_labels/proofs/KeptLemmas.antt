@@ -1,12 +1,11 @@
 -- What a placer keeps, with one word more.
 use Rattle.std.specs.Prelude.{slice_get}
 use Rattle.std.specs.Option.{option_map}
-use Rattle.tal_labels.proofs.Common.{◌≡◌, ℕ, ◌+◌, ◌-◌, ◌^◌, ◌<◌, Bool, true, false, List, [], ◌∷◌, ◌++◌, length, Option, Some, None, Ok, refl}
-use Rattle.tal_labels.proofs.Common.{sym, ◌∙◌, ap, arith, length-append, append-nil, inl, inr, take-append_seam, last_of-more, ltb, Expanded}
-use Rattle.tal_labels.proofs.Common.{FaultKind, Form, fault_at, form, size, opens, closes, expanded_text, PlacedWord}
-use Rattle.tal_labels.proofs.Common.{address_after, defined_name, shape_kinds, is_mark_form, is_defined, place_kinds}
-use Rattle.tal_labels.proofs.Common.{validated_place, placed_of, shape_added, added_fault, open_word, open_ones, PlacerModel, PlacerIsMaintained}
-use Rattle.tal_labels.proofs.Common.{next_fault, closed_labels, closed_opener, openers_step, IsStep}
+use Rattle.tal_labels.proofs.Common.{◌≡◌, ℕ, ◌+◌, ◌-◌, ◌^◌, ◌<◌, Bool, true, false, List, [], ◌∷◌, ◌++◌, length, Option, Some, None, Ok, refl, sym}
+use Rattle.tal_labels.proofs.Common.{◌∙◌, ap, arith, length-append, append-nil, inl, inr, take-append_seam, last_of-more, ltb, Expanded, FaultKind}
+use Rattle.tal_labels.proofs.Common.{Form, fault_at, form, size, opens, closes, expanded_text, PlacedWord, address_after, defined_name, shape_kinds}
+use Rattle.tal_labels.proofs.Common.{is_mark_form, is_defined, place_kinds, validated_place, placed_of, shape_added, added_fault, open_word}
+use Rattle.tal_labels.proofs.Common.{open_ones, PlacerModel, PlacerIsMaintained, next_fault, closed_labels, closed_opener, openers_step, IsStep}
 use Rattle.tal_labels.specs.Scopes.{scope_text}
 use Rattle.tal_words.proofs.BraceLemmas.{opens-closes}
 use Rattle.tal_labels.proofs.CallerLemmas.{length-placed_of}

@@ -2,7 +2,7 @@
 
 ghost use Rattle.std.specs.Prelude.{◌≡◌, ◌+◌, ◌-◌, ◌<◌, ◌≤◌, ◌^◌, length, nat_lt, Ok, None, IfOk, if◌then◌else◌, slice_get};
 ghost use Rattle.tal_words.specs.Faults.{Gives};
-ghost use Rattle.tal_words.specs.Forms.{size};
+ghost use Rattle.tal_words.specs.Forms.{size, encoded_reference};
 ghost use Rattle.tal_labels.specs.Answers.{next_address};
 ghost use Rattle.uxn_limits.specs.declared.addresses.TheConstants.{MEMORY_END};
 ghost use Rattle.tal_labels.specs.Placing.{place_fault, layout_of, place_kinds, is_mark_form, LieApart};
@@ -23,15 +23,24 @@ pub fn size(form: Form, text: &[u8]) -> usize
         Form::Lit1(_) | Form::Raw2(_) => 2,
         Form::Lit2(_) => 3,
         Form::Text => text.len().saturating_sub(1),
-        Form::Refer(Rune::RawRel | Rune::RawZero) => 1,
-        Form::Refer(Rune::LitRel | Rune::LitZero | Rune::RawAbs) => 2,
-        Form::Refer(Rune::LitAbs | Rune::Jmi | Rune::Jci | Rune::Jsi) => 3,
+        Form::Refer(rune) => reference_size(rune),
         Form::Pad(_)
         | Form::Skip(_)
         | Form::LabelDef
         | Form::SubDef
         | Form::LambdaEnd
         | Form::Ignored => 0,
+    }
+}
+
+/// The number of bytes of a reference.
+fn reference_size(rune: Rune) -> usize
+    ensures { result ≡ length (encoded_reference rune 0 0) }
+{
+    match rune {
+        Rune::RawRel | Rune::RawZero => 1,
+        Rune::LitRel | Rune::LitZero | Rune::RawAbs => 2,
+        Rune::LitAbs | Rune::Jmi | Rune::Jci | Rune::Jsi => 3,
     }
 }
 

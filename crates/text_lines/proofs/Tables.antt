@@ -10,8 +10,8 @@ map_if : {A B : Type 0} (f : A → B) (b : Bool) (x : A) (rest : Option A) → o
 map_if f true x rest = refl
 map_if f false x rest = refl
 
--- what is found in a table is found in what is made of its rows, where the tests agree
-pub find_map : {A B : Type 0} (f : A → B) (of : A → Bool) (p : B → Bool) → ((row : A) → of row ≡ p (f row)) → (rows : List A)
+-- the row of a name, where rows are taken for others of the same name
+find_map : {A B : Type 0} (f : A → B) (of : A → Bool) (p : B → Bool) → ((row : A) → of row ≡ p (f row)) → (rows : List A)
     → option_map f (find of rows) ≡ find p (map f rows)
 find_map f of p same [] = refl
 find_map f of p same (row ∷ rows) = rw (map_if f (of row) row (find of rows), same row, find_map f of p same rows) refl

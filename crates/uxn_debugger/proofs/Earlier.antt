@@ -1,8 +1,7 @@
 -- What is kept of the moments before one, and what is observed by it.
 use Rattle.std.proofs.lemmas.Grind.{common_steps}
-use Rattle.std.proofs.Common.{rules}
-use Rattle.std.proofs.Common.{◌≡◌, ℕ, zero, suc, ◌+◌, ◌-◌, ◌%◌, ◌<◌, ◌≤◌, false, cond, List, [], ◌∷◌, length, take, drop, Option, Some, None, refl}
-use Rattle.std.proofs.Common.{sym, ap, ◌∙◌, arith}
+use Rattle.std.proofs.Common.{rules, ◌≡◌, ℕ, zero, suc, ◌+◌, ◌-◌, ◌%◌, ◌<◌, ◌≤◌, false, cond, List, [], ◌∷◌, length, take, drop, Option, Some, None}
+use Rattle.std.proofs.Common.{refl, sym, ap, ◌∙◌, arith}
 use Rattle.std.specs.Prelude.{slice_get, map, option_map, ◌==◌}
 use Rattle.std.proofs.Math.Path.{fun_ext}
 use Rattle.std.proofs.lemmas.Bool.Decides.{nat_tests}
@@ -33,9 +32,6 @@ module _ (labels : List Label) (moments : List Shown) (end : Shown) where
   -- what is held once so many moments were shown
   abbrev pub undo_at : ℕ → List Kept
   undo_at i = holding (kept_before i)
-
-  length_kept : (i : ℕ) → i ≤ length moments → length (kept_before i) ≡ i
-  length_kept = grind (arith, common_steps)
 
   given_next : (i : ℕ) (s : Shown) (left : List Shown) → drop i moments ≡ s ∷ left
       → given_before labels moments end (i + 1) ≡ moment_of_shown s ∷ given_before labels moments end i

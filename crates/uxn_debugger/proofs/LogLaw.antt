@@ -1,7 +1,7 @@
 -- A debugger that is shown a run moment by moment keeps the log of the whole run.
 use Rattle.std.proofs.lemmas.Grind.{common_steps}
 use Rattle.std.proofs.Common.{rules}
-use Rattle.std.proofs.Common.{◌≡◌, ℕ, ◌+◌, ◌-◌, ◌<◌, ◌≤◌, Bool, true, false, cond, List, [], ◌∷◌, ◌++◌, length, drop, Option, Some, None, ◌⊎◌, inl, inr, refl, sym, ap, ◌∙◌, arith}
+use Rattle.std.proofs.Common.{◌≡◌, ℕ, ◌+◌, ◌-◌, ◌<◌, ◌≤◌, Bool, true, false, List, [], ◌∷◌, ◌++◌, length, drop, Option, Some, None, ◌⊎◌, inl, inr, refl, sym, ap, ◌∙◌, arith}
 use Rattle.std.specs.Prelude.{fold, min, max, nat_le}
 use Rattle.std.specs.List.{position_or_len, list_any}
 use Rattle.std.proofs.lemmas.Bool.{cases_Bool}
@@ -150,12 +150,6 @@ module _ (labels : List Label) (moments : List Shown) (end : Shown) where
     run_found = grind (arith, common_steps)
 
     -- `back`, as far as moments are held
-    back_index : (i back count : ℕ) (is : Bool) → cond is (i - back - count) (i - back) ≡ i - cond is (back + count) back
-    back_index = search (arith, rules)
-
-    back_under : (back count held : ℕ) (is : Bool) → is ≡ nat_le count (held - back) → back ≤ held → cond is (back + count) back ≤ held
-    back_under = search (arith, rules)
-
     stays_back : (i : ℕ) (place : Place) (back count : ℕ) (waiting : List DebugCommand) (goal : Goal) (breaks : AddressSet) (log : List ℕ)
         → i ≤ length moments → back ≤ length (undo_at labels moments end i) → goal_of (holding i waiting goal breaks log) place back (Back count) ≡ None
         → Stays i place back (Back count) breaks log (holding i waiting goal breaks log)

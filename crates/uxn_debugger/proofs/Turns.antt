@@ -1,7 +1,6 @@
 -- What a command does where a run stands, against the indices of the finished list.
-use Rattle.std.proofs.Common.{rules}
-use Rattle.std.proofs.Common.{◌≡◌, ℕ, zero, suc, ◌+◌, ◌-◌, ◌<◌, ◌≤◌, Bool, true, false, cond, List, [], ◌∷◌, length, drop, Option, Some, None, refl}
-use Rattle.std.proofs.Common.{sym, ap, ◌∙◌, arith}
+use Rattle.std.proofs.Common.{rules, ◌≡◌, ℕ, zero, suc, ◌+◌, ◌-◌, ◌<◌, ◌≤◌, true, false, cond, List, [], ◌∷◌, length, drop, Option, Some, None}
+use Rattle.std.proofs.Common.{refl, sym, ap, ◌∙◌, arith}
 use Rattle.std.specs.Prelude.{slice_get, min, ◌==◌}
 use Rattle.std.specs.List.{position_or_len}
 use Rattle.std.proofs.lemmas.Bool.Decides.{nat_tests}
@@ -80,9 +79,6 @@ module _ (labels : List Label) (moments : List Shown) (end : Shown) (laws : Undo
     finds_all le first (suc (suc less)) under =
         let inside : suc less ≤ i = omega (arith, held_within labels moments end laws i le) in
         one_more (suc less) le inside (kept_there less le (omega arith)) (finds_all le first (suc less) (omega arith))
-
-    at_shown : (is : Bool) → is ≡ stands_at_break breaks place → is_stop breaks (undo_at labels moments end i) place 0 ≡ is
-    at_shown is same = sym same
 
   -- at a moment
   pub finds_before : (i : ℕ) (breaks : AddressSet) (s : Shown) (left : List Shown) → drop i moments ≡ s ∷ left

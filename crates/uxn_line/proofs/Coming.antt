@@ -1,8 +1,7 @@
 -- What comes next to a machine: what its script still gives, or the bytes of its ring, those that are still to be written, and the end.
-use Rattle.uxn_line.proofs.Common.{common_steps, is_none, slice_get, list_all, and_parts, is_of_console, ◌≡◌, ◌≢◌, ℕ, suc, ◌↔◌, true, List}
-use Rattle.uxn_line.proofs.Common.{[], ◌∷◌, ◌++◌, drop, map, refl, inl, inr, ap, ◌∙◌, arith, Option, PendingInput, OfEvent, ConsoleByte}
-use Rattle.uxn_line.proofs.Common.{pending_inputs_of, AreForConsole, IsForConsole, LineJob, AreOfConsole, script_at, stream, next_pending, inputs}
-use Rattle.uxn_line.proofs.Common.{AreToCome}
+use Rattle.uxn_line.proofs.Common.{common_steps, is_none, slice_get, list_all, and_parts, is_of_console, ◌≡◌, ◌≢◌, ℕ, suc, ◌↔◌, true, List, [], ◌∷◌}
+use Rattle.uxn_line.proofs.Common.{◌++◌, drop, map, refl, inl, inr, ap, ◌∙◌, arith, Option, PendingInput, OfEvent, ConsoleByte, pending_inputs_of}
+use Rattle.uxn_line.proofs.Common.{AreForConsole, IsForConsole, LineJob, AreOfConsole, script_at, stream, next_pending, inputs, AreToCome}
 use Rattle.script_lines.specs.declared.script.Event.{Event}
 use Rattle.vector_loop.specs.PendingInputs.{arguments_given, of_argument}
 

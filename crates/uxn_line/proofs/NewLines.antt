@@ -2,8 +2,7 @@
 use Rattle.uxn_line.proofs.Common.{common_steps, arith, pos, slice_index_or, get_or-map, slice_get-last, slice_get-push, BeginsWith, ◌≡◌, ◌≢◌, ℕ}
 use Rattle.uxn_line.proofs.Common.{zero, suc, ◌<◌, inl, inr, Bool, true, false, List, [], ◌∷◌, ◌++◌, get_or, length, refl, sym, ap, ◌∙◌, Some}
 use Rattle.uxn_line.proofs.Common.{slice_get, cases_eq, buffer, ByteList, bytes_in, Member, LineJob, script_at, rom_at, first_place, stream, MemberAt}
-use Rattle.uxn_line.proofs.Common.{none_turned, RingBefore, InLine, inputs}
-use Rattle.uxn_line.proofs.Common.{Result, Ok, Err}
+use Rattle.uxn_line.proofs.Common.{none_turned, RingBefore, InLine, inputs, Result, Ok, Err}
 use Rattle.std.specs.Prelude.{IfOk}
 use Rattle.script_lines.specs.Scripts.{ScriptView}
 use Rattle.script_lines.specs.declared.script.Clock.{Clock}

@@ -1,7 +1,6 @@
 -- The turns of a machine, taken one after the other, are its run.
-use Rattle.uxn_line.proofs.Common.{put_by-append, FollowsRun, new_machine, run_of_machine, ◌≡◌, ℕ, ◌++◌, ap, sym, ◌∙◌, append-nil}
-use Rattle.uxn_line.proofs.Common.{Trace, no_outputs, put_by, put_in, PlaceHasEnded, LineJob, IsJob, script_at, rom_at, stream}
-use Rattle.uxn_line.proofs.Common.{after, run_left}
+use Rattle.uxn_line.proofs.Common.{put_by-append, FollowsRun, new_machine, run_of_machine, ◌≡◌, ℕ, ◌++◌, ap, sym, ◌∙◌, append-nil, Trace, no_outputs}
+use Rattle.uxn_line.proofs.Common.{put_by, put_in, PlaceHasEnded, LineJob, IsJob, script_at, rom_at, stream, after, run_left}
 use Rattle.vector_loop.specs.StepLaws.{ended-nothing, steps-are}
 
 pub follows : (job : LineJob) → IsJob job → (machine count : ℕ) → FollowsRun (after job machine count) (run_of_machine job machine)

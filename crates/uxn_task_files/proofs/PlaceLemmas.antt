@@ -35,11 +35,6 @@ module _ (p : List ℕ → Bool) where
   none_each q [] fewer none = refl
   none_each q (path ∷ paths) fewer none = (let rest = none_each q paths fewer in grind (arith, common_steps, rest, fewer))
 
-  -- what is found is among them
-  pub found-among : (path : List ℕ) (paths : List (List ℕ)) → Some path ≡ find p paths → list_any (bytes_eq path) paths ≡ true
-  found-among path [] is = absurd cc
-  found-among path (other ∷ paths) is = (let rest = found-among path paths in grind (arith, common_steps, rest, bytes_eq-Decides))
-
   -- how many pass
   pub count-first : (path : List ℕ) (paths : List (List ℕ)) → count_by p (path ∷ paths) ≡ one_if (p path) + count_by p paths
   count-first path paths = sum_by-cons (λ q. one_if (p q)) path paths

@@ -1,8 +1,7 @@
 -- An instruction changes bank 0 only within the bytes that are kept for it.
-use Rattle.uxn_undo.proofs.Common.{◌≡◌, ℕ, ◌+◌, ◌-◌, ◌%◌, ◌==◌, ◌<◌, true, false, cond, List, Option, None, Some}
-use Rattle.uxn_undo.proofs.Common.{refl, inl, inr, arith, cases_Bool, get_or-map-range_with_len, length-map-range_with_len, Core, Cells}
-use Rattle.uxn_undo.proofs.Common.{byte_below, Width, Byte, Short, mode_of, OpEffect, ruled, sides_of, core_of, Span, span_in_bank, IsMachine}
-use Rattle.uxn_undo.proofs.Common.{HoldsBytes}
+use Rattle.uxn_undo.proofs.Common.{◌≡◌, ℕ, ◌+◌, ◌-◌, ◌%◌, ◌==◌, ◌<◌, true, false, cond, List, Option, None, Some, refl, inl, inr, arith, cases_Bool}
+use Rattle.uxn_undo.proofs.Common.{get_or-map-range_with_len, length-map-range_with_len, Core, Cells, byte_below, Width, Byte, Short, mode_of}
+use Rattle.uxn_undo.proofs.Common.{OpEffect, ruled, sides_of, core_of, Span, span_in_bank, IsMachine, HoldsBytes}
 use Rattle.std.proofs.Common.{subst, rules}
 use Rattle.std.specs.Prelude.{nat_lt}
 use Rattle.varvara_bus.specs.History.{stored}

@@ -1,7 +1,6 @@
 -- What is taken of a list, and the bytes of the arguments.
 use Rattle.std.proofs.lemmas.Grind.{common_steps}
-use Rattle.vector_loop.proofs.Common.{List, None, Some, [], arguments_given, arith, drop, length, length-append, refl, ℕ, ◌+◌, ◌∷◌}
-use Rattle.vector_loop.proofs.Common.{◌≡◌, rules}
+use Rattle.vector_loop.proofs.Common.{List, None, Some, [], arguments_given, arith, drop, length, length-append, refl, ℕ, ◌+◌, ◌∷◌, ◌≡◌, rules}
 use Rattle.std.specs.Prelude.{slice_get}
 use Rattle.std.proofs.lemmas.List.Sums.{sum_by-cons}
 use Rattle.std.specs.List.{sum_by}

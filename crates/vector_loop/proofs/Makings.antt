@@ -1,23 +1,22 @@
 -- What a run makes outside by itself: pictures and samples, piece by piece.
 use Rattle.std.proofs.lemmas.Grind.{common_steps}
 use Rattle.vector_loop.proofs.Common.{Bus, BusRepresents, Change, DeviceState, Err, IsOutside, Ledger, List, MadeOrCut, NoMemory, Nodes, Ok, Option}
-use Rattle.vector_loop.proofs.Common.{Result, SameBus, Stop, [], ap, arith, bus_faults, contents_on, drop, flat_map, ledger-same, ledger-then}
+use Rattle.vector_loop.proofs.Common.{Result, SameBus, Stop, [], ap, arith, contents_on, drop, flat_map, ledger-same, ledger-then}
 use Rattle.vector_loop.proofs.Common.{length, map, picture_bytes, picture_row_of, range_with_len, refl, result_blame, rules}
 use Rattle.vector_loop.proofs.Common.{same-again, take, ℕ, ◌++◌, ◌+◌, ◌-◌, ◌<◌, ◌∙◌, ◌∷◌, ◌≡◌, ◌≢◌, ◌≤◌}
 use Rattle.std.proofs.lemmas.List.{map-append}
 use Rattle.std.specs.Prelude.{OnErr, OnOk}
-use Rattle.uxn_io_traits.specs.Ended.{Ended, RefusesNone}
-use Rattle.uxn_io_traits.specs.EndedLaws.{done-nothing, ended-first, ended-then, refuses-nothing}
+use Rattle.uxn_io_traits.specs.Ended.{Ended}
+use Rattle.uxn_io_traits.specs.EndedLaws.{done-nothing, ended-first, ended-then}
 use Rattle.uxn_io_traits.specs.State.{Outside}
 use Rattle.uxn_io_traits.specs.Outside.{ToFile}
 use Rattle.uxn_opcodes.specs.declared.Stop.TheVariants.{TreeFault}
 use Rattle.screen_frame.specs.Colours.{colours_of}
 use Rattle.screen_frame.specs.Ppm.{head_bytes}
 use Rattle.varvara_bus.specs.History.{colour_bytes}
-use Rattle.varvara_bus.specs.Bus.{BusModel, ChangesDevices, FilesStay, Makes, blame_for, outside_on}
+use Rattle.varvara_bus.specs.Bus.{BusModel, ChangesDevices, Makes, blame_for, outside_on}
 use Rattle.varvara_bus.specs.FileActs.{piece_appended}
 use Rattle.varvara_bus.specs.InstructionLaws.{same-itself}
-use Rattle.uxn_io_traits.specs.declared.trees.Tree as trees
 
 -- a fault of the tree is no running out of memory
 pub no-memory : (stop : Stop) → stop ≡ TreeFault → stop ≡ NoMemory → ⊥
@@ -47,19 +46,6 @@ picture-parts = search (arith, rules)
 pub rows-next : (row : ℕ → List ℕ) (y height : ℕ) → y < height
     → flat_map row (range_with_len y (height - y)) ≡ row y ++ flat_map row (range_with_len (y + 1) (height - (y + 1)))
 rows-next = search (arith, rules)
-
--- where the tree is as it was each file is there still
-pub files-kept : {T O E : Type 0} (contents_of_tree : T → Option Nodes) (before now : Bus T O E) → ChangesDevices before now
-    → FilesStay before.devices.now.root (contents_of_tree before.tree.now) (contents_of_tree now.tree.now)
-files-kept contents_of_tree before now changes = record { stays = λ path outside there. rw changes.tree there }
-
--- nor was a file refused
-pub refuses-kept : {T O E : Type 0} (of_tree : trees.Ghosts T) (before now : Bus T O E) → ChangesDevices before now
-    → RefusesNone (of_tree.state before.tree.now) (of_tree.state now.tree.now)
-refuses-kept of_tree before now changes = rw changes.tree (refuses-nothing (of_tree.state before.tree.now))
-
-pub same_faults : {T O E : Type 0} (meaning : BusModel T O E) (a b : Bus T O E) → ChangesDevices a b → bus_faults meaning b ≡ bus_faults meaning a
-same_faults meaning a b others = rw (others.tree, others.out, others.err) refl
 
 -- a piece appended outside the root part leaves each state that the bus represented
 pub appended-still : {T O E : Type 0} (contents_of_tree : T → Option Nodes) (a b : Bus T O E) (path piece : List ℕ) (r : Result (Unit {0}) Stop)

@@ -1,8 +1,7 @@
 -- The instructions of a vector, one after the other.
 use Rattle.vector_loop.proofs.Common.{Bus, Core, Err, Instruction, Ledger, Models, NoMemory, Ok, Result, Running, State, Stop, Tally, Trace, ap}
-use Rattle.vector_loop.proofs.Common.{arith, bus_faults, bus_rules, false, followed_by, inl, inr, instruction, ledger-same, ledger-then, rules}
-use Rattle.vector_loop.proofs.Common.{refl, result_blame, running, running_state, same-again, stays, suc, sym, true, vector, ℕ, ◌+◌}
-use Rattle.vector_loop.proofs.Common.{◌∙◌, ◌≡◌}
+use Rattle.vector_loop.proofs.Common.{arith, bus_faults, bus_rules, false, followed_by, inl, inr, instruction, ledger-same, ledger-then, rules, refl}
+use Rattle.vector_loop.proofs.Common.{result_blame, running, running_state, same-again, stays, suc, sym, true, vector, ℕ, ◌+◌, ◌∙◌, ◌≡◌}
 use Rattle.std.proofs.Common.{subst, zero}
 use Rattle.std.proofs.lemmas.Bool.{cases_Bool}
 use Rattle.std.specs.Prelude.{IfOk}

@@ -10,5 +10,4 @@ popped (first ∷ before) after None m n e size h = absurd (omega (arith, h.0))
 
 pub returns-then-closes-clause-value : goal.returns-then-closes-clause-value
 returns-then-closes-clause-value c =
-    let last = popped c.args.openers.now.items c.pop.new.self.items c.pop.result _ _ c.pop.ensures.items (omega arith) c.pop.ensures.cases in
-    grind (arith, last, c.if-opens.ensures, c.if-closes.ensures)
+    grind (arith, popped c.args.openers.now.items c.pop.new.self.items c.pop.result _ _ c.pop.ensures.items (omega arith) c.pop.ensures.cases, c.if-opens.ensures, c.if-closes.ensures)

@@ -71,18 +71,15 @@ returns-in_err-place_next-clause-value c =
 
 pub unreachable-requires : goal.unreachable-requires
 unreachable-requires c =
-    let so = c.loop-word.invariant in
-    let never = (ended _ _ _ _ c.loop-word-test.false so.kept so.flag c.in_ok-check_shapes.ensures so.sound None c.in-None.ensures).0 in
+    let so = c.loop-word.invariant in let never = (ended _ _ _ _ c.loop-word-test.false so.kept so.flag c.in_ok-check_shapes.ensures so.sound None c.in-None.ensures).0 in
     cc
 
 pub returns-clause-value : goal.returns-clause-value
 returns-clause-value c =
-    let so = c.loop-word.invariant in
-    let all = ended _ _ _ _ c.loop-word-test.false so.kept so.flag c.in_ok-check_shapes.ensures so.sound (Some c.in-Some.placed) c.in-Some.ensures in
+    let so = c.loop-word.invariant in let all = ended _ _ _ _ c.loop-word-test.false so.kept so.flag c.in_ok-check_shapes.ensures so.sound (Some c.in-Some.placed) c.in-Some.ensures in
     (all.1, inside _ _ all.0)
 
 pub returns-clause-apart : goal.returns-clause-apart
 returns-clause-apart c =
-    let so = c.loop-word.invariant in
-    let all = ended _ _ _ _ c.loop-word-test.false so.kept so.flag c.in_ok-check_shapes.ensures so.sound (Some c.in-Some.placed) c.in-Some.ensures in
+    let so = c.loop-word.invariant in let all = ended _ _ _ _ c.loop-word-test.false so.kept so.flag c.in_ok-check_shapes.ensures so.sound (Some c.in-Some.placed) c.in-Some.ensures in
     rw (ap (λ (layout : Layout). layout.words) (inside _ _ all.0)) (lie_apart c.args.source.now c.args.words.now c.in_ok-check_shapes.ensures all.2)

@@ -1,5 +1,4 @@
-use Rattle.uxn_cli.proofs.Clauses.Works.Changes.Names.{◌≡◌, ◌∙◌, ap, refl, run_summary, IfOk-weaker}
-use Rattle.uxn_cli.proofs.Clauses.Works.Changes.Names.{USUAL_BUDGET, put_by, summary_text, run_end}
+use Rattle.uxn_cli.proofs.Clauses.Works.Changes.Names.{◌≡◌, ◌∙◌, ap, refl, run_summary, IfOk-weaker, USUAL_BUDGET, put_by, summary_text, run_end}
 unfoldable use Rattle.uxn_cli.proofs.Clauses.Works.Changes.Names.{workload_text}
 use Rattle.uxn_line.specs.Streams.{run_of}
 use Rattle.uxn_cli.proofs.generating.run_workload.Goals as goal

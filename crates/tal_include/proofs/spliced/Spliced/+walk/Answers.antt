@@ -4,8 +4,7 @@ use Rattle.uxn_io_traits.specs.ByteList.{ByteList}
 use Rattle.tal_words.specs.declared.span.Word.{Word}
 use Rattle.uxn_inquiry.specs.Laws.{leads-start, through-end}
 use Rattle.tal_include.specs.Splice.{at_word, walk}
-use Rattle.tal_include.proofs.WalkLemmas.{no-path, no-bytes, no-words, all-words, include-more, include-stop, plain-more}
-use Rattle.tal_include.proofs.WalkLemmas.{plain-stop}
+use Rattle.tal_include.proofs.WalkLemmas.{no-path, no-bytes, no-words, all-words, include-more, include-stop, plain-more, plain-stop}
 use Rattle.tal_include.proofs.spliced.Spliced.+walk.Goals as goal
 use Rattle.tal_include.proofs.spliced.Spliced.+walk.Goals.{add_words-then-is_include, add_words-else-is_include}
 

@@ -3,6 +3,4 @@ use Rattle.tal_labels.proofs.IndexLemmas.{lookup-named}
 use Rattle.tal_labels.proofs.label_index.LabelIndex.address_of.Goals as goal
 
 pub returns : goal.returns
-returns c =
-    let found = lookup-named c.self.inside.addresses.entries c.args.name.now in
-    grind (arith, c.copied.ensures, c.get.ensures.value, found, c.self.invariant, c.self.view_is)
+returns c = grind (arith, c.copied.ensures, c.get.ensures.value, c.self.invariant, c.self.view_is, lookup-named c.self.inside.addresses.entries c.args.name.now)

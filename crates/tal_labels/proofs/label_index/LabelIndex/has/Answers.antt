@@ -4,5 +4,4 @@ use Rattle.tal_labels.proofs.label_index.LabelIndex.has.Goals as goal
 
 pub returns : goal.returns
 returns c =
-    let found = lookup-some c.self.inside.addresses.entries c.args.name.now in
-    grind (arith, c.is_some.ensures, copied-some c.get.result, c.get.ensures.value, found, c.self.invariant, c.self.view_is)
+    grind (arith, c.is_some.ensures, copied-some c.get.result, c.get.ensures.value, c.self.invariant, c.self.view_is, lookup-some c.self.inside.addresses.entries c.args.name.now)

@@ -1,5 +1,4 @@
-use Rattle.uxn_line.proofs.Common.{length-map, refl, arith, ByteList, sink-as-it-was}
-use Rattle.uxn_line.proofs.Common.{Line, arguments_given, none_turned, LineRepresents, line_job}
+use Rattle.uxn_line.proofs.Common.{length-map, refl, arith, ByteList, sink-as-it-was, Line, arguments_given, none_turned, LineRepresents, line_job}
 use Rattle.uxn_line.proofs.Coming.{script-is-for}
 use Rattle.uxn_line.proofs.line.Line.new.Goals as goal
 

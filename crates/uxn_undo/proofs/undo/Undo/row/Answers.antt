@@ -1,6 +1,5 @@
 use Rattle.std.proofs.Common.{rules}
-use Rattle.uxn_undo.proofs.Common.{◌≡◌, ◌-◌, ◌<◌, List, length, Some, refl, sym, ap, ◌∙◌, arith, slice_index_or, vec_len, Row, row_of}
-use Rattle.uxn_undo.proofs.Common.{row_in, no_row}
+use Rattle.uxn_undo.proofs.Common.{◌≡◌, ◌-◌, ◌<◌, List, length, Some, refl, sym, ap, ◌∙◌, arith, slice_index_or, vec_len, Row, row_of, row_in, no_row}
 use Rattle.std.proofs.lemmas.List.{get_or_default}
 use Rattle.uxn_undo.proofs.Joined.{at_moment, length_held}
 use Rattle.uxn_undo.proofs.Slots.{slot_within}
