@@ -4,7 +4,6 @@ mod LeadLemmas
 mod FillLemmas
 mod DotLemmas
 mod BlendLemmas
-mod ByteLemmas
 pub mod Columns
 pub mod TileLemmas
 mod MarkLemmas

@@ -49,10 +49,10 @@ unfolding covers covers_row
 dot-row width at_x at_y colour y within = row-by (λ x. x == at_x) (y == at_y) width at_x within (grind (arith, nat_tests))
 
 -- a tile's first column is on the screen, or its columns wrap to the left side
-pub tile-row : (width at_x at_y : ℕ) (bytes : List ℕ) (flip_x flip_y : Bool) (blend y : ℕ) → 0 < width → at_x < 65536 → (at_x < width) ⊎ (65528 < at_x)
-    → covers_row (tile at_x at_y bytes flip_x flip_y blend) width y ≡ nat_lt (pixel_distance at_y y) 8
+pub tile-row : (width at_x at_y : ℕ) (inks : ℕ → ℕ → Option ℕ) (y : ℕ) → 0 < width → at_x < 65536 → (at_x < width) ⊎ (65528 < at_x)
+    → covers_row (tile at_x at_y inks) width y ≡ nat_lt (pixel_distance at_y y) 8
 unfolding covers covers_row
-tile-row width at_x at_y bytes flip_x flip_y blend y some short on =
+tile-row width at_x at_y inks y some short on =
     let by = row-by (λ x. nat_lt (pixel_distance at_x x) 8) (nat_lt (pixel_distance at_y y) 8) width in
     elim on [ inl first ↦ by at_x first (grind (arith, nat_tests)) | inr wraps ↦ by 0 some (grind (arith, nat_tests)) ]
 
@@ -90,10 +90,9 @@ pub dot-off : (at_x at_y colour x y width height : ℕ) → x < width → y < he
 unfolding covers
 dot-off at_x at_y colour x y width height in_x in_y off = grind (arith, nat_tests)
 
-pub tile-off : (at_x at_y : ℕ) (bytes : List ℕ) (flip_x flip_y : Bool) (blend x y width : ℕ) → x < width → width ≤ at_x → at_x ≤ 65528
-    → covers (tile at_x at_y bytes flip_x flip_y blend) x y ≡ false
+pub tile-off : (at_x at_y : ℕ) (inks : ℕ → ℕ → Option ℕ) (x y width : ℕ) → x < width → width ≤ at_x → at_x ≤ 65528 → covers (tile at_x at_y inks) x y ≡ false
 unfolding covers
-tile-off at_x at_y bytes flip_x flip_y blend x y width in_x past low = grind (arith, nat_tests)
+tile-off at_x at_y inks x y width in_x past low = grind (arith, nat_tests)
 
 -- the marks after those of the first rows of a tile that lie above a height were set
 abbrev pub TileMarked : List Bool → List Bool → ℕ → ℕ → ℕ → Type 0

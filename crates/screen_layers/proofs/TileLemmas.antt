@@ -4,30 +4,19 @@ use Rattle.std.proofs.lemmas.List.{get_or-take, get_or-drop}
 use Rattle.std.proofs.lemmas.List.Elements.{All-take, All-drop}
 use Rattle.std.proofs.lemmas.Bool.Decides.{nat_tests}
 use borrow.Rule.Slice.PartMut.{put_mid}
-use Rattle.screen_layers.specs.declared.plane.Tile.{Tile}
-use Rattle.screen_layers.specs.declared.tile.Look.{Look}
-use Rattle.screen_layers.specs.Blending.{ink}
-use Rattle.screen_layers.specs.Control.{tile_size}
-use Rattle.screen_layers.specs.Drawings.{tile_at, painted, pixel_value, covers, pixel_distance, row_painted, plane_byte, tile_bytes_at}
+use Rattle.screen_layers.specs.Drawings.{tile, painted, covers, pixel_distance, row_painted}
 use Rattle.screen_layers.specs.Layers.{PaintedOver}
 use Rattle.screen_layers.proofs.Spans.{length-span, row-painted, painted-then, All-put_mid}
 
--- what a row of a tile paints, if it is opaque there
-abbrev pub ink_of : List ℕ → Tile → Look → ℕ → ℕ → Option ℕ
-ink_of memory place look x row =
-    let bytes = tile_bytes_at memory place.at (tile_size look.two_bits) in
-    let byte = plane_byte look.flip_y row in
-    ink look.inks (pixel_value (slice_index bytes byte) (slice_index bytes (8 + byte)) look.columns (pixel_distance place.x x))
-
 -- what the first rows of a tile paint
-abbrev pub rows_painted : List ℕ → Tile → Look → ℕ → ℕ → ℕ → Option ℕ
-rows_painted memory place look count x y =
-    if nat_lt (pixel_distance place.x x) 8 && nat_lt (pixel_distance place.y y) count then ink_of memory place look x (pixel_distance place.y y) else None
+abbrev pub rows_painted : ℕ → ℕ → (ℕ → ℕ → Option ℕ) → ℕ → ℕ → ℕ → Option ℕ
+rows_painted at_x at_y inks count x y =
+    if nat_lt (pixel_distance at_x x) 8 && nat_lt (pixel_distance at_y y) count then inks (pixel_distance at_x x) (pixel_distance at_y y) else None
 
-pub rows-end : (before after memory : List ℕ) (width height : ℕ) (place : Tile) (look : Look)
-    → PaintedOver before after width height (rows_painted memory place look 8) → PaintedOver before after width height (painted (tile_at memory place look))
+pub rows-end : (before after : List ℕ) (width height at_x at_y : ℕ) (inks : ℕ → ℕ → Option ℕ)
+    → PaintedOver before after width height (rows_painted at_x at_y inks 8) → PaintedOver before after width height (painted (tile at_x at_y inks))
 unfolding painted covers
-rows-end before after memory width height place look all = all
+rows-end before after width height at_x at_y inks all = all
 
 joins : (across : Bool) (paints : ℕ → Option ℕ) (at row y z was : ℕ) → at < 65536 → row < 8 → y ≡ (at + row) % 65536 → z < 65536
     → unwrap_or (if z == y then (if across then paints row else None) else None)
@@ -36,33 +25,30 @@ joins : (across : Bool) (paints : ℕ → Option ℕ) (at row y z was : ℕ) →
 joins across paints at row y z was at_in row_in y_is z_in = grind (arith, nat_tests)
 
 -- one more row of it
-pub rows-more : (before after span memory : List ℕ) (width height : ℕ) (place : Tile) (look : Look) (row y low high a k : ℕ)
-    → a + k ≤ length after → place.y < 65536 → row < 8 → y ≡ (place.y + row) % 65536 → height < 65536
+pub rows-more : (before after span : List ℕ) (width height at_x at_y : ℕ) (inks : ℕ → ℕ → Option ℕ) (row y a k : ℕ)
+    → a + k ≤ length after → at_y < 65536 → row < 8 → y ≡ (at_y + row) % 65536 → height < 65536
     → a ≡ y * width → k ≡ width → length span ≡ length (take k (drop a after))
-    → low ≡ slice_index (tile_bytes_at memory place.at (tile_size look.two_bits)) (plane_byte look.flip_y row)
-    → high ≡ slice_index (tile_bytes_at memory place.at (tile_size look.two_bits)) (8 + plane_byte look.flip_y row)
-    → ((x : ℕ) → x < length (take k (drop a after)) → slice_index span x ≡ unwrap_or (row_painted place.x low high look.columns look.inks x) (slice_index (take k (drop a after)) x))
-    → PaintedOver before after width height (rows_painted memory place look row)
-    → PaintedOver before (put_mid a k after span) width height (rows_painted memory place look (row + 1))
-rows-more before after span memory width height place look row y low high a k room at_in row_in y_is height_in a_is k_is same_size low_is high_is drawn so_far =
+    → ((x : ℕ) → x < length (take k (drop a after)) → slice_index span x ≡ unwrap_or (row_painted at_x (λ column. inks column row) x) (slice_index (take k (drop a after)) x))
+    → PaintedOver before after width height (rows_painted at_x at_y inks row)
+    → PaintedOver before (put_mid a k after span) width height (rows_painted at_x at_y inks (row + 1))
+rows-more before after span width height at_x at_y inks row y a k room at_in row_in y_is height_in a_is k_is same_size drawn so_far =
     painted-then before after _ width height _ _ _ so_far
     (row-painted after span width height y a k _ room (same_size ∙ length-span a k after room) a_is k_is
     (λ x in_x. drawn x (omega (arith, length-span a k after room))
-    ∙ ap (λ p. unwrap_or (row_painted place.x low high look.columns look.inks x) p) (get_or-take k (drop a after) x 0 (omega arith) ∙ get_or-drop a after x 0 ∙ ap (λ j. slice_index after (j + x)) a_is)
-    ∙ rw (low_is, high_is) refl))
-    (λ x z was in_x in_z. joins (nat_lt (pixel_distance place.x x) 8) (ink_of memory place look x) place.y row y z was at_in row_in y_is (omega arith))
+    ∙ ap (λ p. unwrap_or (row_painted at_x (λ column. inks column row) x) p) (get_or-take k (drop a after) x 0 (omega arith) ∙ get_or-drop a after x 0 ∙ ap (λ j. slice_index after (j + x)) a_is)))
+    (λ x z was in_x in_z. joins (nat_lt (pixel_distance at_x x) 8) (inks (pixel_distance at_x x)) at_y row y z was at_in row_in y_is (omega arith))
 
 -- a row off the screen paints nothing
-pub rows-off : (before after memory : List ℕ) (width height : ℕ) (place : Tile) (look : Look) (row y : ℕ)
-    → height < 65536 → place.y < 65536 → row < 8 → y ≡ (place.y + row) % 65536 → height ≤ y
-    → PaintedOver before after width height (rows_painted memory place look row)
-    → PaintedOver before after width height (rows_painted memory place look (row + 1))
-rows-off before after memory width height place look row y height_in at_in row_in y_is off so_far =
+pub rows-off : (before after : List ℕ) (width height at_x at_y : ℕ) (inks : ℕ → ℕ → Option ℕ) (row y : ℕ)
+    → height < 65536 → at_y < 65536 → row < 8 → y ≡ (at_y + row) % 65536 → height ≤ y
+    → PaintedOver before after width height (rows_painted at_x at_y inks row)
+    → PaintedOver before after width height (rows_painted at_x at_y inks (row + 1))
+rows-off before after width height at_x at_y inks row y height_in at_in row_in y_is off so_far =
     painted-then before after after width height _ (λ x z. None) _ so_far (record { count = refl; pixels = λ x z in_x in_z. refl })
-    (λ x z was in_x in_z. skips (nat_lt (pixel_distance place.x x) 8) (ink_of memory place look x) z was in_z) where
+    (λ x z was in_x in_z. skips (nat_lt (pixel_distance at_x x) 8) (inks (pixel_distance at_x x)) z was in_z) where
       skips : (across : Bool) (paints : ℕ → Option ℕ) (z was : ℕ) → z < height
-          → unwrap_or (if across && nat_lt (pixel_distance place.y z) row then paints (pixel_distance place.y z) else None) was
-          ≡ unwrap_or (if across && nat_lt (pixel_distance place.y z) (row + 1) then paints (pixel_distance place.y z) else None) was
+          → unwrap_or (if across && nat_lt (pixel_distance at_y z) row then paints (pixel_distance at_y z) else None) was
+          ≡ unwrap_or (if across && nat_lt (pixel_distance at_y z) (row + 1) then paints (pixel_distance at_y z) else None) was
       skips across paints z was in_z = grind (arith, nat_tests)
 
 -- the values stay colours

@@ -23,11 +23,11 @@ unfoldable pub ink : ℕ → ℕ → Option ℕ
 ink blend value =
     if (value == 0) && is_transparent blend then None else Some (slice_index (slice_index_or blends value []) blend)
 
--- what is kept of a blend: the colours of its four values, and whether value 0 draws nothing
-pub record AreInks (blend : ℕ) (colours : List ℕ) (transparent : Bool) : Type 0 where
+-- what is kept of a blend: the colours of its four values, and which bits of the pixel beneath it value 0 keeps: all or none
+pub record AreInks (blend : ℕ) (colours : List ℕ) (mask : ℕ) : Type 0 where
   pub low : blend < 16
   pub same : colours ≡ map (λ row. slice_index row blend) blends
-  pub clear : transparent ≡ is_transparent blend
+  pub kept : mask ≡ (if is_transparent blend then 255 else 0)
 
 -- what is kept of the columns of a tile: the bit of a byte that each shows, the highest first unless they are flipped
 pub record AreMasks (flip_x : Bool) (masks : List ℕ) : Type 0 where

@@ -29,6 +29,10 @@ has_two_bits control = has_bit control 0x80
 abbrev pub tile_size : Bool → ℕ
 tile_size two_bits = if two_bits then 16 else 8
 
--- 8 where auto has the bit, negated modulo 65536 by a flip; else 0
-abbrev pub auto_step : ℕ → ℕ → Bool → ℕ
-auto_step auto bit flip = if has_bit auto bit then (if flip then 65536 - 8 else 8) else 0
+-- so much where auto has the bit, else 0
+abbrev pub auto_step : ℕ → ℕ → ℕ → ℕ
+auto_step auto bit step = if has_bit auto bit then step else 0
+
+-- the eight pixels of a tile's side, negated modulo 65536 by a flip
+abbrev pub side_step : Bool → ℕ
+side_step flip = if flip then 65536 - 8 else 8

@@ -2,23 +2,21 @@
 -- as unsigned shorts is the profile).
 use Rattle.std.specs.Prelude.{ℕ, zero, suc, ◌+◌, ◌-◌, ◌*◌, ◌/◌, ◌%◌, ◌^◌, ◌==◌, nat_lt, nat_le, min}
 use Rattle.std.specs.Prelude.{Bool, true, false, ◌&&◌}
-use Rattle.std.specs.Prelude.{if◌then◌else◌, List, [], ◌∷◌, ◌++◌, take, drop, slice_index, Option, Some, None}
+use Rattle.std.specs.Prelude.{if◌then◌else◌, List, [], ◌∷◌, slice_index, Option, Some, None}
 use Rattle.std.specs.List.{range_with_len, list_any}
-use Rattle.uxn_memory.specs.Bytes.{bank0}
 use Rattle.screen_layers.specs.declared.control.Layer.{Layer}
 use Rattle.screen_layers.specs.declared.control.Layer.TheVariants.{Background, Foreground}
 use Rattle.screen_layers.specs.declared.Moved.{Moved}
-use Rattle.screen_layers.specs.declared.plane.Tile.{Tile}
 use Rattle.screen_layers.specs.declared.tile.Look.{Look}
-use Rattle.screen_layers.specs.Control.{has_bit, flips_x, flips_y, layer_of, fills, has_two_bits, tile_size, auto_step}
+use Rattle.screen_layers.specs.Control.{has_bit, flips_x, flips_y, layer_of, fills, has_two_bits, tile_size, auto_step, side_step}
 use Rattle.screen_layers.specs.Blending.{ink}
 
--- a rectangle from left up to right and from top up to bottom, these two not in it; one place; or a tile with its corner,
--- the bytes that were read (eight, and eight more where it has two bits a pixel), flips and blend
+-- a rectangle from left up to right and from top up to bottom, these two not in it; one place; or a tile: its corner, and
+-- the colour at each of its columns and rows that is opaque
 pub data Shape : Type 0 where
   fill : (left right top bottom colour : ℕ) → Shape
   dot : (x y colour : ℕ) → Shape
-  tile : (x y : ℕ) (bytes : List ℕ) (flip_x flip_y : Bool) (blend : ℕ) → Shape
+  tile : (x y : ℕ) (inks : ℕ → ℕ → Option ℕ) → Shape
 
 -- a shape on one of the layers
 pub record Drawing : Type 0 where
@@ -37,34 +35,21 @@ bit_of byte place = byte / 2 ^ place % 2
 abbrev pub bit_number : Bool → ℕ
 bit_number bit = if bit then 1 else 0
 
--- the value at a column of a tile's row: the bit of its low byte, plus twice that of its high byte
-abbrev pub pixel_value : ℕ → ℕ → Bool → ℕ → ℕ
-pixel_value low high flip_x column =
-    bit_of low (if flip_x then column else 7 - column) + 2 * bit_of high (if flip_x then column else 7 - column)
-
--- the colour that a row of a tile paints at a coordinate, if it covers it and is opaque there
-abbrev pub row_painted : ℕ → ℕ → ℕ → Bool → ℕ → ℕ → Option ℕ
-row_painted corner low high flip_x blend at =
-    if nat_lt (pixel_distance corner at) 8 then ink blend (pixel_value low high flip_x (pixel_distance corner at)) else None
-
--- the byte of a tile that a row shows
-abbrev pub plane_byte : Bool → ℕ → ℕ
-plane_byte flip_y row = if flip_y then 7 - row else row
+-- the colour that a row of eight inks paints at a coordinate, if it covers it and is opaque there
+abbrev pub row_painted : ℕ → (ℕ → Option ℕ) → ℕ → Option ℕ
+row_painted corner inks at = if nat_lt (pixel_distance corner at) 8 then inks (pixel_distance corner at) else None
 
 -- whether a shape covers a place, opaque there or not
 unfoldable pub covers : Shape → ℕ → ℕ → Bool
 covers (fill left right top bottom colour) x y = (nat_le left x && nat_lt x right) && (nat_le top y && nat_lt y bottom)
 covers (dot at_x at_y colour) x y = (x == at_x) && (y == at_y)
-covers (tile at_x at_y bytes flip_x flip_y blend) x y = nat_lt (pixel_distance at_x x) 8 && nat_lt (pixel_distance at_y y) 8
+covers (tile at_x at_y inks) x y = nat_lt (pixel_distance at_x x) 8 && nat_lt (pixel_distance at_y y) 8
 
--- the colour of a shape at a place that it covers, if it is opaque there; a tile of one bit a pixel has no bytes past
--- the eighth, so its high bits are 0
+-- the colour of a shape at a place that it covers, if it is opaque there
 abbrev pub colour_of : Shape → ℕ → ℕ → Option ℕ
 colour_of (fill left right top bottom colour) x y = Some colour
 colour_of (dot at_x at_y colour) x y = Some colour
-colour_of (tile at_x at_y bytes flip_x flip_y blend) x y =
-    let row = plane_byte flip_y (pixel_distance at_y y) in
-    ink blend (pixel_value (slice_index bytes row) (slice_index bytes (8 + row)) flip_x (pixel_distance at_x x))
+colour_of (tile at_x at_y inks) x y = inks (pixel_distance at_x x) (pixel_distance at_y y)
 
 -- the colour that a shape paints at a place
 unfoldable pub painted : Shape → ℕ → ℕ → Option ℕ
@@ -110,34 +95,58 @@ moved_by_pixel x y auto control =
     then (x, y)
     else ((x + (if has_bit auto 1 then 1 else 0)) % 65536, (y + (if has_bit auto 2 then 1 else 0)) % 65536)
 
--- so many bytes of bank 0 from an address on; the bank follows itself, since addresses are modulo 65536
-unfoldable pub tile_bytes_at : List ℕ → ℕ → ℕ → List ℕ
-tile_bytes_at memory at count = take count (drop at (bank0 memory ++ bank0 memory))
-
 -- what a sprite's control byte says of each of its tiles
 abbrev pub look_of : ℕ → Look
 look_of control = record { columns = flips_x control; flip_y = flips_y control; two_bits = has_two_bits control; inks = control % 16 }
 
+-- a byte of the tile at an address of bank 0, which is modulo 65536; past the tile's size it is 0
+abbrev pub tile_byte : List ℕ → ℕ → ℕ → ℕ → ℕ
+tile_byte memory at size place = if nat_lt place size then slice_index memory ((at + place) % 65536) else 0
+
+-- the place of the low byte that a row shows; the high byte is eight behind it
+abbrev pub plane_byte : Bool → ℕ → ℕ
+plane_byte flip_y row = if flip_y then 7 - row else row
+
+abbrev pub row_bytes : List ℕ → ℕ → Look → ℕ → ℕ × ℕ
+row_bytes memory at look row =
+    let byte = tile_byte memory at (tile_size look.two_bits) in
+    let place = plane_byte look.flip_y row in
+    (byte place, byte (8 + place))
+
+-- the colour at a column, if it is opaque there: its value is the bit of the low byte, plus twice that of the high byte
+unfoldable pub column_ink : Look → ℕ × ℕ → ℕ → Option ℕ
+column_ink look bytes column =
+    let bit = if look.columns then column else 7 - column in
+    ink look.inks (bit_of bytes.0 bit + 2 * bit_of bytes.1 bit)
+
 -- a tile at a place, with a look
-abbrev pub tile_at : List ℕ → Tile → Look → Shape
-tile_at memory place look = tile place.x place.y (tile_bytes_at memory place.at (tile_size look.two_bits)) look.columns look.flip_y look.inks
+abbrev pub tile_inks : List ℕ → ℕ → Look → ℕ → ℕ → Option ℕ
+tile_inks memory at look column row = column_ink look (row_bytes memory at look row) column
 
--- how far the bytes of one tile lie from those of the next: a tile's size where auto has 04, else 0
-abbrev pub bytes_step : ℕ → Look → ℕ
-bytes_step auto look = if has_bit auto 4 then tile_size look.two_bits else 0
+abbrev pub tile_at : List ℕ → Moved → Look → Shape
+tile_at memory place look = tile place.x place.y (tile_inks memory place.addr look)
 
--- where tile i of a write to sprite stands: auto 02 steps its x, auto 01 its y and auto 04 its address
-abbrev pub place_of : ℕ → ℕ → ℕ → ℕ → Look → ℕ → Tile
-place_of x y addr auto look i = record {
-  x = (x + i * auto_step auto 2 look.columns) % 65536;
-  y = (y + i * auto_step auto 1 look.flip_y) % 65536;
-  at = (addr + i * bytes_step auto look) % 65536;
+-- how far each tile of a write to sprite stands from the one before: auto 02 steps its x, auto 01 its y and auto 04 its address
+abbrev pub tile_step : ℕ → ℕ → Moved
+tile_step auto control = record {
+  x = auto_step auto 2 (side_step (flips_x control));
+  y = auto_step auto 1 (side_step (flips_y control));
+  addr = auto_step auto 4 (tile_size (has_two_bits control));
+}
+
+-- the place so many steps on, modulo 65536
+abbrev pub place_after : Moved → Moved → ℕ → Moved
+place_after place step count = record {
+  x = (place.x + count * step.x) % 65536;
+  y = (place.y + count * step.y) % 65536;
+  addr = (place.addr + count * step.addr) % 65536;
 }
 
 -- tile i of a write to sprite
 unfoldable pub tile_of : List ℕ → ℕ → ℕ → ℕ → ℕ → ℕ → ℕ → Drawing
 tile_of memory x y addr auto control i =
-    record { layer = layer_of control; shape = tile_at memory (place_of x y addr auto (look_of control) i) (look_of control) }
+    let place = place_after (record { x = x; y = y; addr = addr }) (tile_step auto control) i in
+    record { layer = layer_of control; shape = tile_at memory place (look_of control) }
 
 -- the first drawings of a row of them, the newest first
 unfoldable pub newest_first : (ℕ → Drawing) → ℕ → List Drawing
@@ -151,7 +160,7 @@ drawn_by_sprite memory x y addr auto control = newest_first (tile_of memory x y 
 -- the next x, y and addr after a write to sprite: auto 01 moves x, auto 02 moves y and auto 04 moves addr past the tiles
 abbrev pub moved_by_sprite : ℕ → ℕ → ℕ → ℕ → ℕ → Moved
 moved_by_sprite x y addr auto control = record {
-  x = (x + auto_step auto 1 (flips_x control)) % 65536;
-  y = (y + auto_step auto 2 (flips_y control)) % 65536;
-  addr = (addr + (auto / 16 + 1) * bytes_step auto (look_of control)) % 65536;
+  x = (x + auto_step auto 1 (side_step (flips_x control))) % 65536;
+  y = (y + auto_step auto 2 (side_step (flips_y control))) % 65536;
+  addr = (addr + (auto / 16 + 1) * (tile_step auto control).addr) % 65536;
 }

@@ -1,6 +1,6 @@
 //! What the control byte of a drawing and the auto byte say.
 ghost use Rattle.std.specs.Prelude.{◌≡◌, ◌<◌};
-ghost use Rattle.screen_layers.specs.Control.{has_bit, layer_of, auto_step};
+ghost use Rattle.screen_layers.specs.Control.{has_bit, layer_of, auto_step, side_step};
 
 /// One of the two layers of a screen; the foreground lies over the background.
 #[derive(Clone, Copy)]
@@ -28,16 +28,17 @@ pub fn layer_of(control: u8) -> Layer
     }
 }
 
-/// How far one tile stands from the next: 8 places where auto has the bit, back where it is flipped, else none.
-pub fn auto_step(auto: u8, bit: u8, flip: bool) -> u16
+/// So much where auto has the bit, else 0.
+pub fn auto_step(auto: u8, bit: u8, step: u16) -> u16
     requires { 0 < bit }
-    ensures { result ≡ auto_step auto bit flip }
+    ensures { result ≡ auto_step auto bit step }
 {
-    if !has_bit(auto, bit) {
-        0
-    } else if flip {
-        8u16.wrapping_neg()
-    } else {
-        8
-    }
+    if has_bit(auto, bit) { step } else { 0 }
+}
+
+/// The eight pixels of a tile's side, back where it is flipped.
+pub fn side_step(flip: bool) -> u16
+    ensures { result ≡ side_step flip }
+{
+    if flip { 8u16.wrapping_neg() } else { 8 }
 }

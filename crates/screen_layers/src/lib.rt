@@ -5,7 +5,7 @@ ghost use Rattle.std.specs.Prelude.{ℕ, ◌≡◌, ◌==◌, ◌+◌, ◌*◌, 
 ghost use Rattle.std.specs.Prelude.{if◌then◌else◌, List, [], ◌∷◌, ◌++◌, IfOk, All, length, take, drop, slice_index};
 ghost use Rattle.screen_layers.specs.Control.{layer_of};
 ghost use Rattle.screen_layers.specs.Drawings.{Drawing, filled_span, filled, dotted, moved_by_pixel, moved_by_sprite};
-ghost use Rattle.screen_layers.specs.Drawings.{tile_at, look_of, place_of, bytes_step};
+ghost use Rattle.screen_layers.specs.Drawings.{tile_at, look_of, tile_step, place_after};
 ghost use Rattle.screen_layers.specs.Layers.{mark_at};
 ghost use Rattle.screen_layers.specs.Pictures.{Picture, new_picture, after_pixel, after_sprite};
 ghost use Rattle.screen_layers.specs.Pictures.{can_resize, resized, is_marked, values_of, picture_row_of};
@@ -16,9 +16,9 @@ mod plane;
 mod size;
 mod tile;
 
-use control::{Layer, auto_step, has_bit, layer_of};
+use control::{Layer, auto_step, has_bit, layer_of, side_step};
 use marks::Marks;
-use plane::{Plane, Tile, compose_row};
+use plane::{Plane, compose_row};
 use screen_frame::{CHANNELS, Palette, ppm_row};
 use size::{Area, Size};
 use std::alloc::{AllocError, Global};
@@ -32,12 +32,25 @@ const LEAST: u16 = 8;
 /// The greatest width and height of a screen.
 const GREATEST: u16 = 2047;
 
-/// Where a sprite leaves x, y and the address of its tiles.
+/// Where a tile of a sprite stands, and the address of its bytes; where a sprite leaves these.
 #[derive(Clone, Copy)]
 pub struct Moved {
     pub x: u16,
     pub y: u16,
     pub addr: u16,
+}
+
+impl Moved {
+    // The place so many steps on. Coordinates and addresses wrap.
+    fn place_after(self, step: Moved, count: u16) -> Moved
+        ensures { result ≡ place_after self step count }
+    {
+        Moved {
+            x: self.x.wrapping_add(count.wrapping_mul(step.x)),
+            y: self.y.wrapping_add(count.wrapping_mul(step.y)),
+            addr: self.addr.wrapping_add(count.wrapping_mul(step.addr)),
+        }
+    }
 }
 
 /// A screen of two layers, 8 to 2047 pixels each way, which keeps what is shown of each row that is not marked. Contracts
@@ -140,11 +153,17 @@ impl Screen {
             (after_sprite picture memory.now x y addr auto control) }
         ensures moved { result ≡ moved_by_sprite x y addr auto control }
     {
-        for i in 0..u16::from(auto / 16) + 1 {
-            let place = place_of(x, y, addr, auto, control, i);
-            self.tile(memory, place, control);
+        let first = Moved { x, y, addr };
+        let step = tile_step(auto, control);
+        let count = u16::from(auto / 16) + 1;
+        for i in 0..count {
+            self.tile(memory, first.place_after(step, i), control);
         }
-        place_after(x, y, addr, auto, control)
+        Moved {
+            x: x.wrapping_add(auto_step(auto, 0x01, side_step(has_bit(control, 0x10)))),
+            y: y.wrapping_add(auto_step(auto, 0x02, side_step(has_bit(control, 0x20)))),
+            addr: first.place_after(step, count).addr,
+        }
     }
 
     /// Asks for a size. True where each way lies in 8 to 2047 and one differs from the present size: the screen then
@@ -291,7 +310,7 @@ impl Screen {
     }
 
     // Paints a tile, if a column of it lies on the screen.
-    fn tile(&mut self, memory: &Memory, place: Tile, control: u8)
+    fn tile(&mut self, memory: &Memory, place: Moved, control: u8)
         ensures { Draws self.old self.new (record { layer = layer_of control; shape = tile_at memory.now place (look_of control) }) }
     {
         let size = self.size;
@@ -316,37 +335,14 @@ fn first_size() -> Size
     }
 }
 
-// Where a tile of a sprite stands, by its number, and where its bytes are.
-fn place_of(x: u16, y: u16, addr: u16, auto: u8, control: u8, i: u16) -> Tile
-    ensures { result ≡ place_of x y addr auto (look_of control) i }
+// How far each tile of a sprite stands from the one before.
+fn tile_step(auto: u8, control: u8) -> Moved
+    ensures { result ≡ tile_step auto control }
 {
-    Tile {
-        x: x.wrapping_add(i.wrapping_mul(auto_step(auto, 0x02, has_bit(control, 0x10)))),
-        y: y.wrapping_add(i.wrapping_mul(auto_step(auto, 0x01, has_bit(control, 0x20)))),
-        at: addr.wrapping_add(i.wrapping_mul(bytes_step(auto, control))),
-    }
-}
-
-// How far the bytes of one tile lie from those of the next.
-fn bytes_step(auto: u8, control: u8) -> u16
-    ensures { result ≡ bytes_step auto (look_of control) }
-{
-    if has_bit(auto, 0x04) {
-        tile_size(has_bit(control, 0x80))
-    } else {
-        0
-    }
-}
-
-// Where a sprite leaves x, y and the address.
-fn place_after(x: u16, y: u16, addr: u16, auto: u8, control: u8) -> Moved
-    ensures { result ≡ moved_by_sprite x y addr auto control }
-{
-    let count = u16::from(auto / 16) + 1;
     Moved {
-        x: x.wrapping_add(auto_step(auto, 0x01, has_bit(control, 0x10))),
-        y: y.wrapping_add(auto_step(auto, 0x02, has_bit(control, 0x20))),
-        addr: addr.wrapping_add(count.wrapping_mul(bytes_step(auto, control))),
+        x: auto_step(auto, 0x02, side_step(has_bit(control, 0x10))),
+        y: auto_step(auto, 0x01, side_step(has_bit(control, 0x20))),
+        addr: auto_step(auto, 0x04, tile_size(has_bit(control, 0x80))),
     }
 }
 

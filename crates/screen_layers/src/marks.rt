@@ -1,10 +1,10 @@
 //! The marks of a screen's rows.
 ghost use Rattle.std.specs.Prelude.{ℕ, ◌≡◌, ◌⊎◌, ◌+◌, ◌==◌, ◌<◌, ◌≤◌, ◌&&◌, ◌||◌, Bool, true};
-ghost use Rattle.std.specs.Prelude.{false, nat_le, nat_lt, if◌then◌else◌, List, IfOk, length};
+ghost use Rattle.std.specs.Prelude.{false, nat_le, nat_lt, if◌then◌else◌, List, Option, IfOk, length};
 ghost use Rattle.screen_layers.specs.Layers.{MarksMore, mark_at};
 ghost use Rattle.screen_layers.specs.Drawings.{fill, dot, tile, pixel_distance};
 
-use crate::plane::Tile;
+use crate::Moved;
 use crate::size::{Area, Size};
 use std::alloc::{AllocError, Global};
 use std::marker::Model;
@@ -85,12 +85,11 @@ impl Marks {
     }
 
     /// Marks the rows of a tile that has a column on the screen.
-    pub fn set_tile(&mut self, size: Size, place: Tile)
+    pub fn set_tile(&mut self, size: Size, place: Moved)
         requires height { size.height ≤ 2047 }
         requires column { (place.x < size.width) ⊎ (65528 < place.x) }
         requires width { 0 < size.width }
-        ensures { (bytes : List ℕ) → (flip_x flip_y : Bool) → (blend : ℕ)
-            → MarksMore self.old self.new size.width size.height (tile place.x place.y bytes flip_x flip_y blend) }
+        ensures { (inks : ℕ → ℕ → Option ℕ) → MarksMore self.old self.new size.width size.height (tile place.x place.y inks) }
     {
         mark_tile(&mut self.rows, place.y, size.height);
     }

@@ -1,11 +1,12 @@
 //! A layer's pixels, and how shapes are painted on them.
-ghost use Rattle.std.specs.Prelude.{ℕ, true, ◌≡◌, ◌+◌, ◌*◌, ◌<◌, ◌≤◌, All, IfOk, length, take, drop, slice_index, replicate};
+ghost use Rattle.std.specs.Prelude.{ℕ, ◌≡◌, ◌+◌, ◌*◌, ◌<◌, ◌≤◌, All, IfOk, length, take, drop, slice_index, replicate};
 ghost use Rattle.screen_frame.specs.Colours.{shown};
 ghost use Rattle.screen_layers.specs.Drawings.{painted, fill, dot, tile_at, look_of};
 ghost use Rattle.screen_layers.specs.Layers.{PaintedOver, row_shown};
 
+use crate::Moved;
 use crate::size::{Area, Size};
-use crate::tile::{Look, paint_row};
+use crate::tile::Look;
 use screen_frame::compose;
 use std::alloc::{AllocError, Global};
 use std::marker::Model;
@@ -20,14 +21,6 @@ const LEAD: usize = 48;
 
 /// The most bytes that are filled at once: the C library fills more of them by an instruction that is slow to begin.
 const PIECE: usize = 2048;
-
-/// Where a tile stands, and the address of its bytes.
-#[derive(Clone, Copy)]
-pub struct Tile {
-    pub x: u16,
-    pub y: u16,
-    pub at: u16,
-}
 
 /// Values 0 to 3 in rows as wide as the screen, which contracts see as a list. It has room for the greatest size.
 /// Contracts do not see the bytes of the lead.
@@ -92,7 +85,7 @@ impl Plane {
     }
 
     /// Paints a tile, as far as it lies within the size. Its coordinates wrap, and so do the addresses of its bytes.
-    pub fn tile(&mut self, size: Size, memory: &Memory, place: Tile, control: u8)
+    pub fn tile(&mut self, size: Size, memory: &Memory, place: Moved, control: u8)
         requires plane { length self.old ≡ size.height * size.width }
         requires size { size.width ≤ 2047 }
         ensures { PaintedOver self.old self.new size.width size.height (painted (tile_at memory.now place (look_of control))) }
@@ -189,32 +182,9 @@ fn fill_area(pixels: &mut [u8], size: Size, area: Area, colour: u8)
 }
 
 // Paints a tile, as far as it lies on the screen.
-fn paint_tile(pixels: &mut [u8], size: Size, memory: &Memory, place: Tile, control: u8)
+fn paint_tile(pixels: &mut [u8], size: Size, memory: &Memory, place: Moved, control: u8)
     requires plane { length pixels.old ≡ size.height * size.width }
     requires size { size.width ≤ 2047 }
-    ensures painted { PaintedOver pixels.old pixels.new size.width size.height (painted (tile_at memory.now place (look_of control))) }
-    ensures colours { All (λ colour. colour < 4) pixels.old → All (λ colour. colour < 4) pixels.new }
-{
-    if usize::from(place.x) + 8 <= usize::from(size.width) {
-        paint_rows(pixels, size, memory, place, control, true);
-    } else {
-        paint_rows(pixels, size, memory, place, control, false);
-    }
-}
-
-// Paints the rows of a tile that lie on the screen. `is_whole` says that all its columns do too.
-#[inline(always)]
-fn paint_rows(
-    pixels: &mut [u8],
-    size: Size,
-    memory: &Memory,
-    place: Tile,
-    control: u8,
-    is_whole: bool,
-)
-    requires plane { length pixels.old ≡ size.height * size.width }
-    requires size { size.width ≤ 2047 }
-    requires whole { is_whole ≡ true → place.x + 8 ≤ size.width }
     ensures painted { PaintedOver pixels.old pixels.new size.width size.height (painted (tile_at memory.now place (look_of control))) }
     ensures colours { All (λ colour. colour < 4) pixels.old → All (λ colour. colour < 4) pixels.new }
 {
@@ -222,10 +192,10 @@ fn paint_rows(
     for row in 0..8 {
         let y = place.y.wrapping_add(row);
         if y < size.height {
-            let (low, high) = look.row_bytes(memory, place.at, row);
+            let bytes = look.row_bytes(memory, place.addr, row);
             let start = size.start(y);
             let end = start + usize::from(size.width);
-            paint_row(&mut pixels[start..end], place.x, low, high, &look, is_whole);
+            look.paint_row(bytes, place.x, &mut pixels[start..end]);
         }
     }
 }

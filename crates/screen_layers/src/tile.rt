@@ -1,8 +1,8 @@
 //! Tiles: how their bytes, flips and blend make the colours of a row.
-ghost use Rattle.std.specs.Prelude.{ℕ, true, ◌≡◌, ◌+◌, ◌-◌, ◌*◌, ◌%◌, ◌<◌, ◌≤◌, if◌then◌else◌, All, length, slice_index, unwrap_or};
+ghost use Rattle.std.specs.Prelude.{ℕ, ◌≡◌, ◌+◌, ◌-◌, ◌*◌, ◌%◌, ◌<◌, ◌≤◌, if◌then◌else◌, All, length, slice_index, unwrap_or};
 ghost use Rattle.screen_layers.specs.Blending.{ink};
 ghost use Rattle.screen_layers.specs.Control.{tile_size};
-ghost use Rattle.screen_layers.specs.Drawings.{bit_number, bit_of, pixel_value, row_painted, plane_byte, tile_bytes_at};
+ghost use Rattle.screen_layers.specs.Drawings.{bit_number, bit_of, column_ink, row_painted, plane_byte, tile_byte, row_bytes};
 
 use crate::control::has_bit;
 use std::marker::Model;
@@ -16,12 +16,16 @@ const BLENDS: [[u8; 16]; 4] = [
     [2, 3, 1, 2, 2, 3, 1, 2, 2, 3, 1, 2, 2, 3, 1, 2],
 ];
 
+/// The bits of the pixel beneath that value 0 keeps, for the blends 0 to f: all where it draws nothing. A table, since LLVM makes
+/// a choice of each pixel again of a test.
+const KEPT: [u8; 16] = [255, 0, 0, 0, 0, 255, 0, 0, 0, 0, 255, 0, 0, 0, 0, 255];
+
 /// The colours of a tile's values. Contracts see the blend that they are for.
 #[derive(Drop)]
 pub struct Inks {
     blend: u8,
     colours: [u8; 4],
-    is_transparent: bool,
+    kept: u8,
 }
 
 impl Model for Inks {
@@ -32,7 +36,7 @@ impl Model for Inks {
 
     ghost view = { λ i. i.blend };
 
-    ghost invariant = { λ i. AreInks i.blend i.colours i.is_transparent };
+    ghost invariant = { λ i. AreInks i.blend i.colours i.kept };
 }
 
 impl Inks {
@@ -50,7 +54,7 @@ impl Inks {
                 BLENDS[2][column],
                 BLENDS[3][column],
             ],
-            is_transparent: blend % 5 == 0,
+            kept: KEPT[column],
         }
     }
 
@@ -60,11 +64,10 @@ impl Inks {
         ensures colour { under < 4 → result < 4 }
     {
         let [first, second, third, fourth] = self.colours;
-        let clear = choose(self.is_transparent, under, first);
         choose(
             low,
             choose(high, fourth, second),
-            choose(high, third, clear),
+            choose(high, third, first | (under & self.kept)),
         )
     }
 }
@@ -149,8 +152,7 @@ impl Look {
     /// The low and the high byte that a row of the tile at an address shows.
     pub fn row_bytes(&self, memory: &Memory, at: u16, row: u16) -> (u8, u8)
         requires { row < 8 }
-        ensures low { result.0 ≡ slice_index (tile_bytes_at memory.now at (tile_size self.now.two_bits)) (plane_byte self.now.flip_y row) }
-        ensures high { result.1 ≡ slice_index (tile_bytes_at memory.now at (tile_size self.now.two_bits)) (8 + plane_byte self.now.flip_y row) }
+        ensures { result ≡ row_bytes memory.now at self.now row }
     {
         let place = self.plane_byte(row);
         (
@@ -170,14 +172,69 @@ impl Look {
 
     // A byte of the tile at an address, or 0 past its bytes.
     fn byte(&self, memory: &Memory, at: u16, place: u16) -> u8
-        ensures { result ≡ slice_index (tile_bytes_at memory.now at (tile_size self.now.two_bits)) place }
+        ensures { result ≡ tile_byte memory.now at (tile_size self.now.two_bits) place }
     {
-        memory.known();
         if place < tile_size(self.two_bits) {
             memory.get(at.wrapping_add(place))
         } else {
             0
         }
+    }
+
+    /// Paints the bytes of a row of a tile on a row of a layer, from the tile's x on, as far as they lie there.
+    pub fn paint_row(&self, bytes: (u8, u8), x: u16, row: &mut [u8])
+        requires { length row.old ≤ 2047 }
+        ensures pixels { (k : ℕ) → k < length row.old → slice_index row.new k
+            ≡ unwrap_or (row_painted x (column_ink self.now bytes) k) (slice_index row.old k) }
+        ensures colours { All (λ colour. colour < 4) row.old → All (λ colour. colour < 4) row.new }
+    {
+        let from = usize::from(x);
+        if from + 8 <= row.len() {
+            self.paint_whole(bytes, &mut row[from..from + 8]);
+        } else {
+            self.paint_clipped(bytes, x, row);
+        }
+    }
+
+    // Paints the bytes of a row on eight pixels.
+    fn paint_whole(&self, bytes: (u8, u8), span: &mut [u8])
+        requires { length span.old ≡ 8 }
+        ensures pixels { (k : ℕ) → k < 8 → slice_index span.new k ≡ unwrap_or (column_ink self.now bytes k) (slice_index span.old k) }
+        ensures colours { All (λ colour. colour < 4) span.old → All (λ colour. colour < 4) span.new }
+    {
+        for column in 0..8 {
+            span[column] = self.pixel_over(bytes, column, span[column]);
+        }
+    }
+
+    // Paints the bytes of a row, with a test for each column. Not inlined, so that the rows of a whole tile are a loop of their own.
+    #[inline(never)]
+    fn paint_clipped(&self, bytes: (u8, u8), x: u16, row: &mut [u8])
+        requires { length row.old ≤ 2047 }
+        ensures pixels { (k : ℕ) → k < length row.old → slice_index row.new k
+            ≡ unwrap_or (row_painted x (column_ink self.now bytes) k) (slice_index row.old k) }
+        ensures colours { All (λ colour. colour < 4) row.old → All (λ colour. colour < 4) row.new }
+    {
+        for column in 0..8 {
+            let at = usize::from(x.wrapping_add(column));
+            if at < row.len() {
+                row[at] = self.pixel_over(bytes, usize::from(column), row[at]);
+            }
+        }
+    }
+
+    // The pixel at a column of a row, once it was drawn over what was there.
+    #[tactic(auto, unfolding(crate::specs::Drawings::column_ink))]
+    fn pixel_over(&self, bytes: (u8, u8), column: usize, under: u8) -> u8
+        requires { column < 8 }
+        ensures pixel { result ≡ unwrap_or (column_ink self.now bytes column) under }
+        ensures colour { under < 4 → result < 4 }
+    {
+        self.inks.over(
+            self.columns.bit(bytes.0, column),
+            self.columns.bit(bytes.1, column),
+            under,
+        )
     }
 }
 
@@ -186,60 +243,4 @@ pub fn tile_size(two_bits: bool) -> u16
     ensures { result ≡ tile_size two_bits }
 {
     if two_bits { 16 } else { 8 }
-}
-
-// The pixel at a column of a row, once it was drawn over what was there.
-fn pixel_over(low: u8, high: u8, column: usize, look: &Look, under: u8) -> u8
-    requires { column < 8 }
-    ensures pixel { result ≡ unwrap_or (ink look.now.inks (pixel_value low high look.now.columns column)) under }
-    ensures colour { under < 4 → result < 4 }
-{
-    look.inks.over(
-        look.columns.bit(low, column),
-        look.columns.bit(high, column),
-        under,
-    )
-}
-
-/// Paints a row of a tile on a row of a layer, from the tile's x on; only columns on the layer's row are painted.
-pub fn paint_row(row: &mut [u8], x: u16, low: u8, high: u8, look: &Look, is_whole: bool)
-    requires row { length row.old ≤ 2047 }
-    requires whole { is_whole ≡ true → x + 8 ≤ length row.old }
-    ensures pixels { (k : ℕ) → k < length row.old → slice_index row.new k
-        ≡ unwrap_or (row_painted x low high look.now.columns look.now.inks k) (slice_index row.old k) }
-    ensures colours { All (λ colour. colour < 4) row.old → All (λ colour. colour < 4) row.new }
-{
-    if is_whole {
-        let from = usize::from(x);
-        paint_whole(&mut row[from..from + 8], low, high, look);
-    } else {
-        paint_clipped(row, x, low, high, look);
-    }
-}
-
-// Paints a row of a tile on a span of eight pixels.
-fn paint_whole(span: &mut [u8], low: u8, high: u8, look: &Look)
-    requires { length span.old ≡ 8 }
-    ensures pixels { (k : ℕ) → k < 8 → slice_index span.new k
-        ≡ unwrap_or (ink look.now.inks (pixel_value low high look.now.columns k)) (slice_index span.old k) }
-    ensures colours { All (λ colour. colour < 4) span.old → All (λ colour. colour < 4) span.new }
-{
-    for column in 0..8 {
-        span[column] = pixel_over(low, high, column, look, span[column]);
-    }
-}
-
-// Paints a row of a tile, with a test for each column.
-fn paint_clipped(row: &mut [u8], x: u16, low: u8, high: u8, look: &Look)
-    requires { length row.old ≤ 2047 }
-    ensures pixels { (k : ℕ) → k < length row.old → slice_index row.new k
-        ≡ unwrap_or (row_painted x low high look.now.columns look.now.inks k) (slice_index row.old k) }
-    ensures colours { All (λ colour. colour < 4) row.old → All (λ colour. colour < 4) row.new }
-{
-    for column in 0..8 {
-        let at = usize::from(x.wrapping_add(column));
-        if at < row.len() {
-            row[at] = pixel_over(low, high, usize::from(column), look, row[at]);
-        }
-    }
 }

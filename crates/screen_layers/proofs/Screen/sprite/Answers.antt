@@ -13,7 +13,7 @@ loop-i-preserved c =
     let drawing = tile_of c.args.memory.now c.args.x c.args.y c.args.addr c.args.auto c.args.control in
     record {
       drawn = λ picture stands. rw add-one (stands-more c.loop-i.self c.tile.new.self (drawing c.loop-i.i) (newest_first drawing c.loop-i.i) picture
-          (rw c.place_of-place.ensures at c.tile.ensures) (c.loop-i.invariant.drawn picture stands));
+          (rw (c.place_after.ensures, c.tile_step-step.ensures) at c.tile.ensures) (c.loop-i.invariant.drawn picture stands));
     }
 
 pub returns-clause-drawn : goal.returns-clause-drawn
