@@ -4,13 +4,14 @@ ghost use Rattle.std.specs.Option.{option_copied};
 ghost use Rattle.uxn_io_traits.specs.Ended.{TreeEnded, TreeLooked, RefusedAtMost};
 ghost use Rattle.file_ports.specs.Device.{idle_at, Suits};
 ghost use Rattle.file_ports.specs.Names.{path_named};
-ghost use Rattle.file_ports.specs.Actions.{Read, Write, Stat, Delete, count_from};
+ghost use Rattle.file_ports.specs.Actions.{Read, Write, Stat, Delete};
 ghost use Rattle.file_ports.specs.AnswersAction.{changes_by, ActedOrStopped, has_failed};
 
 use crate::mode::Mode;
 use crate::names::path_named;
 use crate::reading::{read_on, reading};
 use crate::signs::put_signs;
+use crate::span::Span;
 use crate::stop::FileStop;
 use crate::writing::add;
 use std::alloc::Global;
@@ -33,14 +34,6 @@ impl Model for FileDevice {
     ghost Value = { FileState };
 
     ghost view = { λ d. record { path = d.path; mode = d.mode } };
-}
-
-/// How many bytes are meant by a length at an address: none past `ffff`.
-fn count_from(at: u16, length: u16) -> u16
-    ensures count { result ≡ count_from at length }
-    ensures within { at + result ≤ 65536 }
-{
-    u32::from(length).min(65536 - u32::from(at)) as u16
 }
 
 impl FileDevice {
@@ -82,7 +75,7 @@ impl FileDevice {
             Some(path) => {
                 let mode = mem::replace(&mut self.mode, Mode::Idle);
                 let mode = reading(self.alloc, tree, &path, mode)?;
-                let (count, mode) = read_on(tree, &path, mode, memory, at, count_from(at, length))?;
+                let (count, mode) = read_on(tree, &path, mode, memory, Span::of(at, length))?;
                 self.mode = mode;
                 Ok(count)
             }
@@ -110,7 +103,8 @@ impl FileDevice {
             Some(path) => {
                 let is_writing = self.mode.is_writing();
                 self.mode = Mode::Idle;
-                let piece = memory.slice(at, count_from(at, length));
+                let span = Span::of(at, length);
+                let piece = memory.slice(span.at, span.count);
                 if !add(tree, &path, piece, is_writing, keep)? {
                     return Ok(0);
                 }
@@ -134,12 +128,12 @@ impl FileDevice {
         ensures untouched { self.old.path ≡ None → tree.new ≡ tree.old }
         ensures device { self.new ≡ self.old }
     {
-        let count = count_from(at, length);
+        let span = Span::of(at, length);
         let kind = match self.path {
             Some(path) => tree.kind(&path)?,
             None => Kind::Missing,
         };
-        Ok(put_signs(memory, at, count, kind))
+        Ok(put_signs(memory, span, kind))
     }
 
     /// Takes the file away, and answers 1, or 0 where none is there. The device does nothing then.

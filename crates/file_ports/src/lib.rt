@@ -8,6 +8,7 @@ mod mode;
 mod names;
 mod reading;
 mod signs;
+mod span;
 mod stop;
 mod writing;
 

@@ -12,6 +12,7 @@ ghost use Rattle.file_ports.specs.AnswersAction.{has_failed, GivesPiece, PutsPre
 
 use crate::listing::Listing;
 use crate::mode::Mode;
+use crate::span::Span;
 use crate::stop::FileStop;
 use std::alloc::Global;
 use uxn_io_traits::{Failed, Kind, NamesStop, Path, Tree};
@@ -65,33 +66,29 @@ pub(crate) fn reading<T: Tree>(
     }
 }
 
-/// Puts bytes of what is read in memory, at most so many, and says how many and what the device does then.
+/// Puts bytes of what is read in memory, at most as many as a span has, and says how many and what the device does then.
 pub(crate) fn read_on<T: Tree>(
     tree: &mut T,
     path: &Path,
     mode: Mode,
     memory: &mut Memory,
-    at: u16,
-    count: u16,
+    span: Span,
 ) -> Result<(u16, Mode), Failed>
-    requires { at + count ≤ 65536 }
     ensures piece { IfOk result (λ read. IfSome (T.state tree.old).contents (λ nodes.
-        GivesPiece (given mode (observed_file nodes path.now) count) memory.old at read.0 memory.new)) }
+        GivesPiece (given mode (observed_file nodes path.now) span.count) memory.old span.at read.0 memory.new)) }
     ensures mode { IfOk result (λ read. read.1 ≡ moved mode read.0) }
-    ensures stopped { OnErr result (PutsPrefix (option_map (λ nodes. given mode (observed_file nodes path.now) count) (T.state tree.old).contents)
-        count memory.old at memory.new) }
+    ensures stopped { OnErr result (PutsPrefix (option_map (λ nodes. given mode (observed_file nodes path.now) span.count) (T.state tree.old).contents)
+        span.count memory.old span.at memory.new) }
     ensures tree { TreeLooked (is_err result) (T.state tree.old) (T.state tree.new) }
 {
     match mode {
         Mode::Idle | Mode::Writing => Ok((0, mode)),
         Mode::ReadingFile(place) => {
-            let most = most_from(place, count);
-            let taken = put_file(tree, path, place, memory, at, most)?;
+            let taken = put_file(tree, path, place, memory, span.first(u64::MAX - place))?;
             Ok((taken, Mode::ReadingFile(place + u64::from(taken))))
         }
         Mode::ReadingListing(place, listing) => {
-            let most = most_from(place, count);
-            let taken = put_rest(listing.as_slice(), place, memory, at, most);
+            let taken = put_rest(listing.as_slice(), place, memory, span.first(u64::MAX - place));
             Ok((
                 taken,
                 Mode::ReadingListing(place + u64::from(taken), listing),
@@ -100,56 +97,44 @@ pub(crate) fn read_on<T: Tree>(
     }
 }
 
-/// How many bytes may be read from a place on, so that no place is over the last.
-fn most_from(place: u64, count: u16) -> u16
-    ensures most { result ≡ min count (last_place - place) }
-    ensures within { result ≤ count }
-    ensures fits { place + result < 2 ^ 64 }
-{
-    u64::from(count).min(u64::MAX - place) as u16
-}
-
-/// Puts bytes from a place on in memory, so many or as many as are left, and says how many.
-fn put_rest(bytes: &[u8], place: u64, memory: &mut Memory, at: u16, count: u16) -> u16
-    requires { at + count ≤ 65536 }
-    ensures piece { GivesPiece (take count (drop place bytes.now)) memory.old at result memory.new }
-    ensures within { result ≤ count }
+/// Puts bytes from a place on in a span of memory, or as many as are left, and says how many.
+fn put_rest(bytes: &[u8], place: u64, memory: &mut Memory, span: Span) -> u16
+    ensures piece { GivesPiece (take span.count (drop place bytes.now)) memory.old span.at result memory.new }
+    ensures within { result ≤ span.count }
 {
     let start = bytes.len().min(place as usize);
     let rest = &bytes[start..];
-    let taken = rest.len().min(usize::from(count));
-    memory.put(at, &rest[..taken]);
+    let taken = rest.len().min(usize::from(span.count));
+    memory.put(span.at, &rest[..taken]);
     taken as u16
 }
 
-/// Puts bytes of a file from a place on in memory, so many or as many as are left, and says how many.
+/// Puts bytes of a file from a place on in a span of memory, or as many as are left, and says how many.
 fn put_file<T: Tree>(
     tree: &mut T,
     path: &Path,
     place: u64,
     memory: &mut Memory,
-    at: u16,
-    count: u16,
+    span: Span,
 ) -> Result<u16, Failed>
-    requires room { at + count ≤ 65536 }
-    requires places { place + count < 2 ^ 64 }
+    requires { place + span.count < 2 ^ 64 }
     ensures piece { IfOk result (λ n. IfSome (T.state tree.old).contents (λ nodes.
-        GivesPiece (take count (file_bytes_from nodes path.now place)) memory.old at n memory.new)) }
-    ensures within { IfOk result (λ n. n ≤ count) }
-    ensures stopped { OnErr result (PutsPrefix (option_map (λ nodes. take count (file_bytes_from nodes path.now place)) (T.state tree.old).contents)
-        count memory.old at memory.new) }
+        GivesPiece (take span.count (file_bytes_from nodes path.now place)) memory.old span.at n memory.new)) }
+    ensures within { IfOk result (λ n. n ≤ span.count) }
+    ensures stopped { OnErr result (PutsPrefix (option_map (λ nodes. take span.count (file_bytes_from nodes path.now place)) (T.state tree.old).contents)
+        span.count memory.old span.at memory.new) }
     ensures tree { TreeLooked (is_err result) (T.state tree.old) (T.state tree.new) }
 {
     memory.known();
     let mut chunk = [0; CHUNK];
     let mut done = 0;
-    while done < count {
-        let wanted = CHUNK.min(usize::from(count - done));
+    while done < span.count {
+        let wanted = CHUNK.min(usize::from(span.count - done));
         let taken = tree.read(path, place + u64::from(done), &mut chunk[..wanted])?;
         if taken == 0 {
             return Ok(done);
         }
-        memory.put(at + done, &chunk[..taken]);
+        memory.put(span.at + done, &chunk[..taken]);
         done += taken as u16;
     }
     Ok(done)

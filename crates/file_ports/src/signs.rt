@@ -1,10 +1,11 @@
 //! The signs by which a stat shows what is there.
-ghost use Rattle.std.specs.Prelude.{◌≡◌, ◌+◌, ◌%◌, ◌^◌, ◌≤◌, nat_lt, replicate};
+ghost use Rattle.std.specs.Prelude.{◌≡◌, ◌%◌, ◌^◌, nat_lt, replicate};
 ghost use Rattle.uxn_io_traits.specs.NumberText.{hex_digit};
 ghost use Rattle.uxn_memory.specs.Bytes.{with_bytes};
 ghost use Rattle.file_ports.specs.Signs.{hex_digits, signs};
 ghost use Rattle.file_ports.specs.Actions.{stat_success};
 
+use crate::span::Span;
 use uxn_io_traits::{Kind, hex_byte, hex_short};
 use uxn_memory::Memory;
 
@@ -39,62 +40,58 @@ fn fits(value: u64, count: u16) -> bool
 }
 
 /// Puts a number in so many hexadecimal digits, with zeros before it.
-fn put_digits(memory: &mut Memory, at: u16, count: u16, value: u64)
-    requires { at + count ≤ 65536 }
-    ensures { memory.new ≡ with_bytes memory.old at (hex_digits count value) }
+fn put_digits(memory: &mut Memory, span: Span, value: u64)
+    ensures { memory.new ≡ with_bytes memory.old span.at (hex_digits span.count value) }
 {
     memory.known();
     let mut rest = value;
-    let mut left = count;
+    let mut left = span.count;
     while left > 0 {
         left -= 1;
-        memory.set(at + left, last_digit(rest));
+        memory.set(span.at + left, last_digit(rest));
         rest /= 16;
     }
 }
 
 /// Puts the same sign so many times.
 #[tactic(auto, using(crate::proofs::MemoryLemmas::with_same))]
-fn put_same(memory: &mut Memory, at: u16, count: u16, sign: u8)
-    requires { at + count ≤ 65536 }
-    ensures { memory.new ≡ with_bytes memory.old at (replicate count sign) }
+fn put_same(memory: &mut Memory, span: Span, sign: u8)
+    ensures { memory.new ≡ with_bytes memory.old span.at (replicate span.count sign) }
 {
     memory.known();
-    memory.fill(count, 0, at, sign);
+    memory.fill(span.count, 0, span.at, sign);
 }
 
 /// Puts so many signs for a size.
 #[tactic(auto, unfolding(crate::specs::Signs::signs))]
-fn put_size(memory: &mut Memory, at: u16, count: u16, size: u64)
-    requires { at + count ≤ 65536 }
-    ensures { memory.new ≡ with_bytes memory.old at (signs count (Kind.File size)) }
+fn put_size(memory: &mut Memory, span: Span, size: u64)
+    ensures { memory.new ≡ with_bytes memory.old span.at (signs span.count (Kind.File size)) }
 {
-    if fits(size, count) {
-        put_digits(memory, at, count, size);
+    if fits(size, span.count) {
+        put_digits(memory, span, size);
     } else {
-        put_same(memory, at, count, TOO_BIG);
+        put_same(memory, span, TOO_BIG);
     }
 }
 
 /// Puts so many signs for what is there, and answers their number, or 0 where nothing is there.
 #[tactic(auto, unfolding(crate::specs::Signs::signs))]
-pub(crate) fn put_signs(memory: &mut Memory, at: u16, count: u16, kind: Kind) -> u16
-    requires { at + count ≤ 65536 }
-    ensures memory { memory.new ≡ with_bytes memory.old at (signs count kind) }
-    ensures success { result ≡ stat_success kind count }
+pub(crate) fn put_signs(memory: &mut Memory, span: Span, kind: Kind) -> u16
+    ensures memory { memory.new ≡ with_bytes memory.old span.at (signs span.count kind) }
+    ensures success { result ≡ stat_success kind span.count }
 {
     match kind {
         Kind::Missing => {
-            put_same(memory, at, count, MISSING);
+            put_same(memory, span, MISSING);
             0
         }
         Kind::File(size) => {
-            put_size(memory, at, count, size);
-            count
+            put_size(memory, span, size);
+            span.count
         }
         Kind::Folder => {
-            put_same(memory, at, count, FOLDER);
-            count
+            put_same(memory, span, FOLDER);
+            span.count
         }
     }
 }

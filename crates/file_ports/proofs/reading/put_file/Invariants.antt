@@ -8,11 +8,11 @@ use Rattle.file_ports.proofs.reading.put_file.Given as goal
 
 abbrev pub invariant-loop-done : goal.invariant-loop-done
 invariant-loop-done g l = record {
-  within : l.done ≤ l.count;
-  contents : IfSome (g.T.Tree.state l.fn.tree).contents (λ nodes. GivesPiece (take l.done (file_bytes_from nodes l.path l.place)) l.fn.memory l.at l.done l.memory);
-  put : HasPut l.fn.memory l.at l.done l.memory;
+  within : l.done ≤ l.span.count;
+  contents : IfSome (g.T.Tree.state l.fn.tree).contents (λ nodes. GivesPiece (take l.done (file_bytes_from nodes l.path l.place)) l.fn.memory l.span.at l.done l.memory);
+  put : HasPut l.fn.memory l.span.at l.done l.memory;
   tree : TreeLooked false (g.T.Tree.state l.fn.tree) (g.T.Tree.state l.tree);
 }
 
 abbrev pub decreases-loop-done : goal.decreases-loop-done
-decreases-loop-done g l = l.count - l.done
+decreases-loop-done g l = l.span.count - l.done

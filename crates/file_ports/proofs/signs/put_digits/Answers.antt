@@ -13,6 +13,6 @@ loop-left-preserved c = grind (arith, common_steps, digit_put, length-set)
 pub returns : goal.returns
 returns c =
     let none : c.loop-left.left ≡ 0 = omega arith in
-    sym (with_nothing c.loop-left.memory c.args.at)
-    ∙ ap (with_bytes c.loop-left.memory c.args.at) (sym (digits-none c.loop-left.rest) ∙ ap (λ (n : ℕ). hex_digits n c.loop-left.rest) (sym none))
+    sym (with_nothing c.loop-left.memory c.args.span.at)
+    ∙ ap (with_bytes c.loop-left.memory c.args.span.at) (sym (digits-none c.loop-left.rest) ∙ ap (λ (n : ℕ). hex_digits n c.loop-left.rest) (sym none))
     ∙ c.loop-left.invariant.digits

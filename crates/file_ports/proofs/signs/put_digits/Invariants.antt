@@ -6,9 +6,9 @@ use Rattle.file_ports.proofs.signs.put_digits.Given as goal
 
 abbrev pub invariant-loop-left : goal.invariant-loop-left
 invariant-loop-left l = record {
-  within : l.left ≤ l.count;
+  within : l.left ≤ l.span.count;
   size : length l.memory ≡ 1048576;
-  digits : with_bytes l.memory l.at (hex_digits l.left l.rest) ≡ with_bytes l.fn.memory l.at (hex_digits l.count l.value);
+  digits : with_bytes l.memory l.span.at (hex_digits l.left l.rest) ≡ with_bytes l.fn.memory l.span.at (hex_digits l.span.count l.value);
 }
 
 abbrev pub decreases-loop-left : goal.decreases-loop-left

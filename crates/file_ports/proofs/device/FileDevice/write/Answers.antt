@@ -10,7 +10,7 @@ writes : (g : Over) (c : After-add g)
     → WritesAt c.args.at c.args.length c.args.memory.now c.args.self.now c.in-Some.path c.is_writing-is_writing.result c.slice-piece.result.now
 writes g c =
     writes_at c.args.at c.args.length _ c.args.memory.now c.args.self.now c.self.inside.path c.self.inside.mode c.in-Some.path _ _
-    c.self.view_is c.in-Some.is c.is_writing-is_writing.ensures c.count_from.ensures.count c.slice-piece.ensures
+    c.self.view_is c.in-Some.is c.is_writing-is_writing.ensures c.of-span.ensures.1 (rw c.of-span.ensures.0 at c.slice-piece.ensures)
 
 pub returns-in_err-add-in-Some-clause-tree : goal.returns-in_err-add-in-Some-clause-tree
 returns-in_err-add-in-Some-clause-tree g c =
