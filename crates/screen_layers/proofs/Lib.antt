@@ -6,7 +6,7 @@ mod DotLemmas
 mod BlendLemmas
 pub mod Columns
 pub mod TileLemmas
-mod MarkLemmas
+pub mod MarkLemmas
 pub mod ScreenLemmas
 pub mod RefreshLemmas
 mod ComposedLemmas

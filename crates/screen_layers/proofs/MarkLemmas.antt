@@ -1,9 +1,9 @@
 -- What a shape covers, and the rows that are marked with it.
-use Rattle.std.proofs.Common.{◌≡◌, cond, ◌⊎◌, ℕ, zero, suc, ◌+◌, ◌<◌, ◌≤◌, Bool, true, false, ◌&&◌, ◌||◌, ◌==◌, nat_le, nat_lt, List, length, replicate, slice_set, Option, None, unwrap_or, inl, inr, refl, sym, ap, ◌∙◌, arith}
+use Rattle.std.proofs.Common.{◌≡◌, cond, ◌⊎◌, ℕ, zero, suc, ◌+◌, ◌<◌, ◌≤◌, Bool, true, false, ◌&&◌, ◌||◌, ◌==◌, nat_le, nat_lt, List, replicate, Option, None, unwrap_or, inl, inr, refl, sym, ap, arith}
 use Rattle.std.specs.List.{range_with_len, list_any}
 use Rattle.std.proofs.lemmas.Bool.{and_right, both_ways, false_from_ne_true, or_right, cases_lt, cases_eq}
 use Rattle.std.proofs.lemmas.Bool.Decides.{nat_tests}
-use Rattle.std.proofs.lemmas.List.{get_or-replicate, length-replicate, get_or-set_same, get_or-set_other, get_or_past}
+use Rattle.std.proofs.lemmas.List.{get_or-replicate, length-replicate, get_or_past}
 use Rattle.screen_layers.specs.declared.control.Layer.{Layer}
 use Rattle.screen_layers.specs.Drawings.{Shape, Drawing, fill, dot, tile, painted, paint, same_layer, covers, covers_row, pixel_distance}
 use Rattle.screen_layers.specs.Layers.{Layers, Draws, pixel_at, pixels_of, mark_at}
@@ -34,35 +34,27 @@ row-by : (across : ℕ → Bool) (down : Bool) (width at : ℕ) → at < width �
 row-by across true width at in_x e = one-passes (λ x. across x && true) 0 width at (omega arith) (omega arith) (rw e refl)
 row-by across false width at in_x e = none-passes (λ x. across x && false) 0 width (λ x _. and_right (across x) false refl)
 
-pub fill-row : (width left right top bottom colour y : ℕ) → left < right → right ≤ width
+pub fill_row : (width left right top bottom colour y : ℕ) → left < right → right ≤ width
     → covers_row (fill left right top bottom colour) width y ≡ (nat_le top y && nat_lt y bottom)
 unfolding covers covers_row
-fill-row width left right top bottom colour y some within =
+fill_row width left right top bottom colour y some within =
     row-by (λ x. nat_le left x && nat_lt x right) (nat_le top y && nat_lt y bottom) width left (omega arith) (grind (arith, nat_tests))
 
-pub fill-off : (width left right top bottom colour y : ℕ) → right ≤ left → covers_row (fill left right top bottom colour) width y ≡ false
+pub fill_off : (width left right top bottom colour y : ℕ) → right ≤ left → covers_row (fill left right top bottom colour) width y ≡ false
 unfolding covers covers_row
-fill-off width left right top bottom colour y none = row-off (fill left right top bottom colour) width y (λ x _. grind (arith, nat_tests))
+fill_off width left right top bottom colour y none = row-off (fill left right top bottom colour) width y (λ x _. grind (arith, nat_tests))
 
-pub dot-row : (width at_x at_y colour y : ℕ) → at_x < width → covers_row (dot at_x at_y colour) width y ≡ (y == at_y)
+pub dot_row : (width at_x at_y colour y : ℕ) → at_x < width → covers_row (dot at_x at_y colour) width y ≡ (y == at_y)
 unfolding covers covers_row
-dot-row width at_x at_y colour y within = row-by (λ x. x == at_x) (y == at_y) width at_x within (grind (arith, nat_tests))
+dot_row width at_x at_y colour y within = row-by (λ x. x == at_x) (y == at_y) width at_x within (grind (arith, nat_tests))
 
 -- a tile's first column is on the screen, or its columns wrap to the left side
-pub tile-row : (width at_x at_y : ℕ) (inks : ℕ → ℕ → Option ℕ) (y : ℕ) → 0 < width → at_x < 65536 → (at_x < width) ⊎ (65528 < at_x)
+pub tile_row : (width at_x at_y : ℕ) (inks : ℕ → ℕ → Option ℕ) (y : ℕ) → 0 < width → at_x < 65536 → (at_x < width) ⊎ (65528 < at_x)
     → covers_row (tile at_x at_y inks) width y ≡ nat_lt (pixel_distance at_y y) 8
 unfolding covers covers_row
-tile-row width at_x at_y inks y some short on =
+tile_row width at_x at_y inks y some short on =
     let by = row-by (λ x. nat_lt (pixel_distance at_x x) 8) (nat_lt (pixel_distance at_y y) 8) width in
     elim on [ inl first ↦ by at_x first (grind (arith, nat_tests)) | inr wraps ↦ by 0 some (grind (arith, nat_tests)) ]
-
--- the marks after one more
-pub marks-set : (marks : List Bool) (at y : ℕ) → at < length marks → mark_at (slice_set marks at true) y ≡ ((y == at) || mark_at marks y)
-marks-set marks at y room =
-    elim (cases_eq y at) [
-      | inl e ↦ rw e (get_or-set_same marks at true false room ∙ grind (arith, nat_tests))
-      | inr ne ↦ get_or-set_other marks at y true false ne ∙ grind (arith, nat_tests)
-    ]
 
 -- a drawing paints nothing where its shape does not cover
 pub paint-none : (drawing : Drawing) (layer : Layer) (x y : ℕ) → covers drawing.shape x y ≡ false → paint drawing layer x y ≡ None

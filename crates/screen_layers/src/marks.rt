@@ -62,36 +62,63 @@ impl Marks {
     }
 
     /// Marks the row of a place.
+    #[tactic(auto, using(crate::proofs::MarkLemmas::dot_row))]
     pub fn set_dot(&mut self, size: Size, x: u16, y: u16)
         requires { (x < size.width) × (y < 2047) }
         ensures { (colour : ℕ) → MarksMore self.old self.new size.width size.height (dot x y colour) }
     {
-        self.rows[usize::from(y)] = true;
+        self.set_span(usize::from(y), usize::from(y) + 1);
     }
 
     /// Marks the rows of a rectangle, if it has a column.
+    #[tactic(auto, using(crate::proofs::MarkLemmas::fill_row, crate::proofs::MarkLemmas::fill_off))]
     pub fn set_fill(&mut self, size: Size, area: Area)
         requires across { area.left ≤ area.right × (area.right ≤ size.width) }
         requires down { area.top ≤ area.bottom × (area.bottom ≤ 2047) }
         ensures { (colour : ℕ) → MarksMore self.old self.new size.width size.height (fill area.left area.right area.top area.bottom colour) }
     {
         if area.left < area.right {
-            mark_span(
-                &mut self.rows,
-                usize::from(area.top),
-                usize::from(area.bottom),
-            );
+            self.set_span(usize::from(area.top), usize::from(area.bottom));
         }
     }
 
     /// Marks the rows of a tile that has a column on the screen.
+    #[tactic(auto, using(crate::proofs::MarkLemmas::tile_row))]
     pub fn set_tile(&mut self, size: Size, place: Moved)
         requires height { size.height ≤ 2047 }
         requires column { (place.x < size.width) ⊎ (65528 < place.x) }
         requires width { 0 < size.width }
         ensures { (inks : ℕ → ℕ → Option ℕ) → MarksMore self.old self.new size.width size.height (tile place.x place.y inks) }
     {
-        mark_tile(&mut self.rows, place.y, size.height);
+        let from = usize::from(place.y);
+        if from + 8 <= usize::from(size.height) {
+            self.set_span(from, from + 8);
+        } else {
+            self.set_rows(place.y, size.height);
+        }
+    }
+
+    // Marks rows from one up to another.
+    #[tactic(auto, using(std::proofs::lemmas::List::take_at))]
+    fn set_span(&mut self, top: usize, bottom: usize)
+        requires { top ≤ bottom × (bottom ≤ 2047) }
+        ensures { (y : ℕ) → mark_at self.new y ≡ ((nat_le top y && nat_lt y bottom) || mark_at self.old y) }
+    {
+        mark_span(&mut self.rows, top, bottom);
+    }
+
+    // Marks those of the eight rows from one on, which wrap, that lie above a height.
+    #[inline(never)]
+    fn set_rows(&mut self, y: u16, height: u16)
+        requires { height ≤ 2047 }
+        ensures { (row : ℕ) → row < height → mark_at self.new row ≡ (nat_lt (pixel_distance y row) 8 || mark_at self.old row) }
+    {
+        for row in 0..8 {
+            let at = y.wrapping_add(row);
+            if at < height {
+                self.rows[usize::from(at)] = true;
+            }
+        }
     }
 }
 
@@ -102,35 +129,4 @@ fn mark_span(rows: &mut [bool], top: usize, bottom: usize)
     ensures length { length rows.new ≡ length rows.old }
 {
     rows[top..bottom].fill(true);
-}
-
-// Marks those of the eight rows from one on, which wrap, that lie above a height.
-fn mark_tile(rows: &mut [bool], y: u16, height: u16)
-    requires length { length rows.old ≡ 2047 }
-    requires height { height ≤ 2047 }
-    ensures marks { (row : ℕ) → row < height → mark_at rows.new row ≡ (nat_lt (pixel_distance y row) 8 || mark_at rows.old row) }
-    ensures length { length rows.new ≡ 2047 }
-{
-    let from = usize::from(y);
-    if from + 8 <= usize::from(height) {
-        mark_span(rows, from, from + 8);
-    } else {
-        mark_rows(rows, y, height);
-    }
-}
-
-// Marks those of the eight rows from one on, which wrap, that lie above a height.
-#[inline(never)]
-fn mark_rows(rows: &mut [bool], y: u16, height: u16)
-    requires length { length rows.old ≡ 2047 }
-    requires height { height ≤ 2047 }
-    ensures marks { (row : ℕ) → row < height → mark_at rows.new row ≡ (nat_lt (pixel_distance y row) 8 || mark_at rows.old row) }
-    ensures length { length rows.new ≡ 2047 }
-{
-    for row in 0..8 {
-        let at = y.wrapping_add(row);
-        if at < height {
-            rows[usize::from(at)] = true;
-        }
-    }
 }
