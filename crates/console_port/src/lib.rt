@@ -8,7 +8,6 @@ ghost use Rattle.console_port.specs.Console.{event_byte, given};
 
 use uxn_io_traits::{Failed, Sink};
 use uxn_limits::ports;
-pub use uxn_limits::ports::CONSOLE_TYPE as KIND;
 
 /// Where a program writes bytes.
 #[derive(Clone, Copy)]

@@ -1,6 +1,6 @@
 //! The debugger: a watcher that does commands and keeps a log.
 
-ghost use Rattle.std.specs.Prelude.{◌≡◌, ◌≤◌, ℕ, List, [], length, if◌then◌else◌, IfOk, IfSome, OnOk};
+ghost use Rattle.std.specs.Prelude.{◌≡◌, ◌≤◌, ℕ, List, [], length, if◌then◌else◌, IfSome, OnOk};
 ghost use Rattle.std.specs.List.{list_any};
 ghost use Rattle.vector_loop.specs.Watch.{Page, IsPage};
 ghost use Rattle.uxn_debugger.specs.Printing.{view};
@@ -20,7 +20,6 @@ ghost use Rattle.uxn_debugger.specs.Watching.{
   is_stop,
   new_watching,
   next_stop,
-  obeyed,
   shown_of,
   with_arrival,
   with_kept,
@@ -156,8 +155,9 @@ impl<'a> Debugger<'a> {
                     place,
                     undo: &self.undo,
                     back: 0,
+                    labels: self.labels,
                 };
-                put_place(&mut self.log, self.labels, &scene)
+                put_place(&mut self.log, &scene)
             }
         }
     }
@@ -172,13 +172,21 @@ impl<'a> Debugger<'a> {
         while let Some(command) = self.commands.get(self.next) {
             let command = *command;
             self.next += 1;
-            match self.goal_of(place, back, command) {
-                Some(goal) => {
-                    self.goal = goal;
-                    return Ok(());
-                }
-                None => back = self.obey(core, ports, place, back, command)?,
+            if let Some(goal) = self.goal_of(place, back, command) {
+                self.goal = goal;
+                return Ok(());
             }
+            let reach = self.undo.held() - back;
+            back = self.back_after(place, back, command);
+            self.breaks.follow(command);
+            let scene = Scene {
+                core,
+                place,
+                undo: &self.undo,
+                back,
+                labels: self.labels,
+            };
+            put_printed(&mut self.log, &scene, ports, reach, command)?;
         }
         self.goal = Goal::Nothing;
         Ok(())
@@ -245,36 +253,6 @@ impl<'a> Debugger<'a> {
             Place::Before(moment) => self.breaks.contains(moment.address),
             Place::End(_) => false,
         }
-    }
-
-    // Does a command so far back, and says how far back it leaves one.
-    fn obey<P: Ports>(
-        &mut self,
-        core: &Core,
-        ports: &P,
-        place: Place,
-        back: u32,
-        command: DebugCommand,
-    ) -> Result<u32, AllocError>
-        requires { back ≤ length (held_by self.old).undo }
-        ensures left { (held_by self.new).commands ≡ (held_by self.old).commands }
-        ensures back { IfOk result (λ there. there ≡ back_after (held_by self.old) place back command) }
-        ensures held { IfOk result (λ there. there ≤ length (held_by self.new).undo) }
-        ensures ok { OnOk result ((page : Page) → IsPage (P.rules.reads ports.now core.now) (P.stored ports.now) page
-            → held_by self.new ≡ obeyed (view core.now page.read place) back command (held_by self.old)) }
-        ensures kept { KeptNone (held_by self.old) (held_by self.new) }
-    {
-        let reach = self.undo.held() - back;
-        let there = self.back_after(place, back, command);
-        self.breaks.follow(command);
-        let scene = Scene {
-            core,
-            place,
-            undo: &self.undo,
-            back: there,
-        };
-        put_printed(&mut self.log, self.labels, &scene, ports, reach, command)?;
-        Ok(there)
     }
 }
 

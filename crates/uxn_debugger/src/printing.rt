@@ -39,7 +39,6 @@ const PORTS: u16 = 256;
 // Prints what a command prints. Before it one could have gone so many moments back.
 pub(crate) fn put_printed<P: Ports>(
     log: &mut Vec<u8>,
-    labels: &[Label],
     scene: &Scene<'_>,
     ports: &P,
     reach: u32,
@@ -47,14 +46,14 @@ pub(crate) fn put_printed<P: Ports>(
 ) -> Result<(), AllocError>
     requires { scene.now.back ≤ length scene.now.undo.now }
     ensures { OnOk result ((page : Page) → IsPage (P.rules.reads ports.now scene.now.core.now) (P.stored ports.now) page
-        → log.new.items ≡ log.old.items ++ printed labels.now reach (view_in scene.now page.read) command) }
+        → log.new.items ≡ log.old.items ++ printed scene.now.labels.now reach (view_in scene.now page.read) command) }
 {
     match command {
         DebugCommand::Break(address) => put_address_line(log, b"break", address),
         DebugCommand::Delete(address) => put_address_line(log, b"delete", address),
         DebugCommand::Back(count) if count > reach => put_held(log, reach),
         DebugCommand::Run | DebugCommand::Step(_) | DebugCommand::Back(_) | DebugCommand::Here => {
-            put_place(log, labels, scene)
+            put_place(log, scene)
         }
         DebugCommand::Stacks => {
             let text = debug_text(&scene.working(), &scene.returns());
@@ -83,18 +82,14 @@ fn put_held(log: &mut Vec<u8>, reach: u32) -> Result<(), AllocError>
 }
 
 // Prints the place line.
-pub(crate) fn put_place(
-    log: &mut Vec<u8>,
-    labels: &[Label],
-    scene: &Scene<'_>,
-) -> Result<(), AllocError>
+pub(crate) fn put_place(log: &mut Vec<u8>, scene: &Scene<'_>) -> Result<(), AllocError>
     requires { scene.now.back ≤ length scene.now.undo.now }
     ensures { OnOk result ((page : List ℕ)
-        → log.new.items ≡ log.old.items ++ place_observed labels.now (view_in scene.now page)) }
+        → log.new.items ≡ log.old.items ++ place_observed scene.now.labels.now (view_in scene.now page)) }
 {
     let place = scene.place();
     let opcode = scene.byte(place.moment().address);
-    put_place_line(log, labels, opcode, place)
+    put_place_line(log, scene.labels, opcode, place)
 }
 
 // Prints the place line of a place, with the opcode there.

@@ -5,19 +5,21 @@ ghost use Rattle.vector_loop.specs.Watch.{Page, IsPage};
 ghost use Rattle.uxn_debugger.specs.Scenes.{view_in};
 
 use crate::place::Place;
+use tal_symbols::Label;
 use uxn_opcodes::{Core, Ports};
 use uxn_stacks::Ring;
 use uxn_undo::Undo;
 use vector_loop::Moment;
 
-// The machine that runs and where it stands, the moments that are kept of it, and how many of them lie between it and the one that is
-// looked at.
+// The machine that runs and where it stands, the moments that are kept of it, how many of them lie between it and the one that is
+// looked at, and the labels by which addresses are named.
 #[derive(Clone, Copy, Drop)]
 pub(crate) struct Scene<'s> {
     pub(crate) core: &'s Core,
     pub(crate) place: Place,
     pub(crate) undo: &'s Undo,
     pub(crate) back: u32,
+    pub(crate) labels: &'s [Label],
 }
 
 impl<'s> Scene<'s> {

@@ -7,7 +7,6 @@ ghost use Rattle.console_port.specs.Console.{event_byte};
 ghost use Rattle.script_lines.specs.Held.{bytes_in};
 ghost use Rattle.script_lines.specs.Limits.{IsTime};
 ghost use Rattle.script_lines.specs.Scripts.{ScriptView};
-ghost use Rattle.vector_loop.specs.Run.{made_ready};
 ghost use Rattle.uxn_line.specs.Streams.{clock_by, first_place};
 ghost use Rattle.varvara_bus.specs.History.{stored, stored_short};
 ghost use Rattle.varvara_bus.specs.State.{DeviceState, storing};
@@ -24,7 +23,7 @@ use console_port::EventKind;
 use script_lines::Clock as ScriptClock;
 use std::alloc::{AllocError, Global};
 use uxn_io_traits::{Bytes, NoSink, NoTree};
-use uxn_limits::ports::{CONSOLE_TYPE, CONSOLE_VECTOR, SYSTEM_STATE};
+use uxn_limits::ports::{CONSOLE_VECTOR, SYSTEM_STATE};
 use uxn_opcodes::{Core, Turn, step};
 use varvara_bus::{Bus, Clock, Devices};
 use vector_loop::PendingInput;
@@ -74,16 +73,6 @@ pub fn clock_of(clock: ScriptClock) -> Clock
     }
 }
 
-/// Tells the program by port 17 whether arguments will come.
-fn make_ready(devices: &mut Devices, arguments: &[Bytes])
-    ensures { (state : DeviceState) → Rests devices.old state
-        → Rests devices.new (storing (made_ready (bytes_in arguments.now)) state) }
-{
-    if !arguments.is_empty() {
-        devices.store(CONSOLE_TYPE, EventKind::Input.byte());
-    }
-}
-
 impl Machine {
     /// The new machine of a ROM, with the arguments and the clock of a script, about to run its reset vector.
     pub fn new(
@@ -100,7 +89,7 @@ impl Machine {
     {
         let core = Core::new(alloc, rom)?;
         let mut devices = Devices::new(alloc, None, clock_of(clock))?;
-        make_ready(&mut devices, arguments);
+        devices.make_ready(arguments.len());
         Ok(Machine {
             core,
             devices,

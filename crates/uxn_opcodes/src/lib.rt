@@ -38,7 +38,7 @@ mod rows;
 mod words;
 
 pub use crate::operation::{Mode, Op, StoreOp, Width};
-use crate::rows::{Access, perform};
+use crate::rows::{Access, OpInMode, perform};
 use crate::words::{load, push, size};
 use std::alloc::{AllocError, Global};
 use uxn_memory::Memory;
@@ -293,24 +293,14 @@ fn run<const CODE: u8>(core: &mut Core, at: u16) -> (Access, u16)
             run_immediate(core, &mut next, CODE);
             Access::Nothing
         }
-        Some(op) => if mode.returns {
-            perform(
-                op,
-                mode,
-                &mut core.memory,
-                &mut next,
-                &mut core.returns,
-                &mut core.working,
-            )
-        } else {
-            perform(
-                op,
-                mode,
-                &mut core.memory,
-                &mut next,
-                &mut core.working,
-                &mut core.returns,
-            )
+        Some(op) => {
+            let row = OpInMode { op, mode };
+            let memory = &mut core.memory;
+            if mode.returns {
+                perform(row, memory, &mut next, &mut core.returns, &mut core.working)
+            } else {
+                perform(row, memory, &mut next, &mut core.working, &mut core.returns)
+            }
         }
     };
     (access, next)

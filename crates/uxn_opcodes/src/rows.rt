@@ -36,6 +36,15 @@ pub enum Access {
     Write(u8, Width, u16),
 }
 
+/// An operation in a mode.
+#[derive(Clone, Copy)]
+pub struct OpInMode {
+    /// The operation.
+    pub op: Op,
+    /// The mode.
+    pub mode: Mode,
+}
+
 /// `(value >> (shift & 0f)) << (shift >> 4)`.
 #[inline(always)]
 fn shifted(value: u16, shift: u8) -> u32
@@ -211,18 +220,18 @@ fn store_word(op: StoreOp, mode: Mode, memory: &mut Memory, at: u16, this: &mut 
 #[inline(always)]
 #[tactic(auto, unfolding(crate::specs::Rule::op_effect_of))]
 pub fn perform(
-    op: Op,
-    mode: Mode,
+    row: OpInMode,
     memory: &mut Memory,
     at: &mut u16,
     this: &mut Ring,
     other: &mut Ring,
 ) -> Access
-    ensures sides { found memory.new at.new this.new other.new
-        ≡ ruled mode (found memory.old at.old this.old other.old) (op_effect_of op mode (found memory.old at.old this.old other.old)) }
-    ensures access { result ≡ (op_effect_of op mode (found memory.old at.old this.old other.old)).access }
+    ensures sides { found memory.new at.new this.new other.new ≡ ruled row.mode (found memory.old at.old this.old other.old)
+        (op_effect_of row.op row.mode (found memory.old at.old this.old other.old)) }
+    ensures access { result ≡ (op_effect_of row.op row.mode (found memory.old at.old this.old other.old)).access }
 {
-    match op {
+    let mode = row.mode;
+    match row.op {
         Op::Inc => {
             let a = take_word(this, mode, mode.width);
             push(this, mode.width, u32::from(a) + 1);

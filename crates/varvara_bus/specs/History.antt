@@ -1,5 +1,8 @@
 -- What was stored in the ports (Varvara device reference).
-use Rattle.std.specs.Prelude.{ℕ, ◌+◌, ◌*◌, ◌==◌, List, [], ◌∷◌, if◌then◌else◌}
+use Rattle.std.specs.Prelude.{ℕ, zero, suc, ◌+◌, ◌*◌, ◌==◌, List, [], ◌∷◌, if◌then◌else◌}
+use Rattle.console_port.specs.Console.{event_byte}
+use Rattle.console_port.specs.declared.EventKind.TheVariants.{Input}
+use Rattle.uxn_limits.specs.declared.ports.TheConstants.{CONSOLE_TYPE}
 
 -- a byte stored in a port
 abbrev pub Store : Type 0
@@ -32,3 +35,8 @@ colour_bytes history =
 abbrev pub stored_after : History → List Store → History
 stored_after history [] = history
 stored_after history (store ∷ stores) = stored_after (store ∷ history) stores
+
+-- what is stored before the reset vector, by how many arguments will come: where some will, port 17 holds the kind of input
+abbrev pub made_ready : ℕ → List Store
+made_ready zero = []
+made_ready (suc more) = (CONSOLE_TYPE, event_byte Input) ∷ []

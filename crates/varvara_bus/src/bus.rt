@@ -10,7 +10,7 @@ ghost use Rattle.screen_layers.specs.Pictures.{marked_rows};
 ghost use Rattle.audio_mixer.specs.Sounds.{frame_of, endings};
 ghost use Rattle.audio_mixer.specs.Voices.{all_play_on};
 ghost use Rattle.input_ports.specs.Page.{stores_of, stores_after};
-ghost use Rattle.varvara_bus.specs.History.{stored, stored_short, colour_bytes};
+ghost use Rattle.varvara_bus.specs.History.{made_ready, stored, stored_short, colour_bytes};
 ghost use Rattle.uxn_io_traits.specs.Faults.{Ledger};
 ghost use Rattle.uxn_opcodes.specs.Ports.{result_blame};
 ghost use Rattle.uxn_io_traits.specs.Ended.{SinkEnded, Ended};
@@ -137,6 +137,15 @@ impl<'a, T: Tree, O: Sink, E: Sink> Bus<'a, T, O, E> {
         ensures frames { frames_begun self.new ≡ frames_begun self.old }
     {
         self.devices.give(value, kind);
+    }
+
+    /// Tells the program by port 17 whether arguments will come.
+    pub fn make_ready(&mut self, arguments: usize)
+        ensures devices { Becomes (contents_on T.Tree) (λ state. storing (made_ready arguments) state) self.old self.new }
+        ensures others { ChangesDevices self.old self.new }
+        ensures frames { frames_begun self.new ≡ frames_begun self.old }
+    {
+        self.devices.make_ready(arguments);
     }
 
     /// Stores an input at its ports, as its vector finds them.

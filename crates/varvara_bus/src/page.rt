@@ -5,7 +5,7 @@ ghost use Rattle.uxn_limits.specs.declared.ports.TheConstants.{CONSOLE_READ, CON
 ghost use Rattle.console_port.specs.Console.{event_byte, given};
 ghost use Rattle.input_ports.specs.Page.{with_stores, stores_of, stores_after};
 ghost use Rattle.input_ports.specs.Page.{short_stores};
-ghost use Rattle.varvara_bus.specs.History.{at_first, stored, stored_short};
+ghost use Rattle.varvara_bus.specs.History.{at_first, made_ready, stored, stored_short};
 ghost use Rattle.uxn_io_traits.specs.Files.{Nodes};
 ghost use Rattle.varvara_bus.specs.State.{DeviceState, DevicesRepresent, device_clock, new_state, storing};
 
@@ -18,6 +18,7 @@ use input_ports::{Input, apply, settle};
 use screen_layers::Screen;
 use std::alloc::{AllocError, Global};
 use uxn_io_traits::Path;
+use uxn_limits::ports::CONSOLE_TYPE;
 
 impl Devices {
     /// New devices: all ports hold 0 but 22 to 25, which hold the size of the screen; nothing is drawn or heard, no file is
@@ -74,6 +75,16 @@ impl Devices {
             → DevicesRepresent self.new (storing ((CONSOLE_READ, value) ∷ (CONSOLE_TYPE, event_byte kind) ∷ []) state) }
     {
         give(&mut self.page, value, kind);
+    }
+
+    /// Tells the program by port 17 whether arguments will come.
+    pub fn make_ready(&mut self, arguments: usize)
+        ensures devices { self.new ≡ record self.old { page = with_stores self.old.page (made_ready arguments) } }
+        ensures stands { (state : DeviceState) → DevicesRepresent self.old state → DevicesRepresent self.new (storing (made_ready arguments) state) }
+    {
+        if arguments > 0 {
+            self.store(CONSOLE_TYPE, EventKind::Input.byte());
+        }
     }
 
     /// Stores an input at its ports.

@@ -1,17 +1,17 @@
 -- Where a run stands, and one step of it: an instruction of the vector that runs, or the giving of what comes next (profile).
-use Rattle.std.specs.Prelude.{◌≡◌, ℕ, zero, suc, ◌==◌, ◌≤◌, true, List, [], ◌∷◌, ◌⊎◌}
+use Rattle.std.specs.Prelude.{◌≡◌, ℕ, zero, suc, ◌==◌, ◌≤◌, true, List, [], ◌∷◌, length, ◌⊎◌}
 use Rattle.std.specs.Prelude.{if◌then◌else◌, Option, Some, None}
 use Rattle.console_port.specs.Console.{event_byte}
 use Rattle.script_lines.specs.Scripts.{ScriptView}
 use Rattle.uxn_limits.specs.declared.ports.TheConstants.{CONSOLE_VECTOR, CONSOLE_READ, CONSOLE_TYPE}
-use Rattle.varvara_bus.specs.History.{stored_short}
+use Rattle.varvara_bus.specs.History.{made_ready, stored_short}
 use Rattle.vector_loop.specs.declared.pending_input.PendingInput.{PendingInput}
 use Rattle.vector_loop.specs.declared.output.Outputs.{Outputs}
 use Rattle.vector_loop.specs.State.{State, counting_cut, with_stored, is_over}
 use Rattle.vector_loop.specs.Trace.{Trace, stays, followed_by}
 use Rattle.vector_loop.specs.Vector.{at_break, instruction, instructions, begun_at}
 use Rattle.vector_loop.specs.Event.{give_each}
-use Rattle.vector_loop.specs.Run.{made_ready, run}
+use Rattle.vector_loop.specs.Run.{run}
 use Rattle.vector_loop.specs.PendingInputs.{ConsoleByte, pending_inputs_of, given, console_byte_of, counted_input}
 
 -- where a run stands: what was done so far, what is left of the budget of the vector that runs, 0 where the machine is idle, and
@@ -83,7 +83,7 @@ after_steps budget outputs (suc count) begun = step budget outputs (after_steps 
 -- where the run of a script begins: in the reset vector
 abbrev pub run_begun : ℕ → ScriptView → State → Place
 run_begun budget script state =
-    place (stays (begun_at 0x0100 (with_stored (made_ready script.arguments) state))) budget (pending_inputs_of script)
+    place (stays (begun_at 0x0100 (with_stored (made_ready (length script.arguments)) state))) budget (pending_inputs_of script)
 
 -- what is left of a run, as the reference run does it
 abbrev pub vector_left : ℕ → State → Trace

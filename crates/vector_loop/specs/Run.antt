@@ -1,10 +1,7 @@
 -- The reference run of a script: the reset vector, then what the script gives, and no more once the state is not 0.
-use Rattle.std.specs.Prelude.{ℕ, List, [], ◌∷◌}
-use Rattle.console_port.specs.Console.{event_byte}
-use Rattle.console_port.specs.declared.EventKind.TheVariants as event_kind
+use Rattle.std.specs.Prelude.{ℕ, length}
 use Rattle.script_lines.specs.Scripts.{ScriptView}
-use Rattle.uxn_limits.specs.declared.ports.TheConstants.{CONSOLE_TYPE}
-use Rattle.varvara_bus.specs.History.{Store}
+use Rattle.varvara_bus.specs.History.{made_ready}
 use Rattle.vector_loop.specs.declared.output.Outputs.{Outputs}
 use Rattle.vector_loop.specs.State.{State, with_stored}
 use Rattle.vector_loop.specs.Trace.{Trace, followed_by}
@@ -13,15 +10,10 @@ use Rattle.vector_loop.specs.Answers.{Count, both_counts, of_vectors}
 use Rattle.vector_loop.specs.Event.{give_each}
 use Rattle.vector_loop.specs.PendingInputs.{pending_inputs_of, given, counts_of}
 
--- with arguments port 17 holds the kind of input in the reset vector
-abbrev pub made_ready : List (List ℕ) → List Store
-made_ready [] = []
-made_ready (text ∷ texts) = (CONSOLE_TYPE, event_byte event_kind.Input) ∷ []
-
 -- the whole run from a state on
 unfoldable pub run : ℕ → Outputs → ScriptView → State → Trace
 run budget outputs script state =
-    followed_by (vector budget 0x0100 (with_stored (made_ready script.arguments) state))
+    followed_by (vector budget 0x0100 (with_stored (made_ready (length script.arguments)) state))
     (give_each (given budget outputs) (pending_inputs_of script))
 
 -- how much is counted of it at most

@@ -1,5 +1,5 @@
 -- What holds of a whole run, since it holds of an instruction, of an append, and of one part after another.
-use Rattle.std.specs.Prelude.{◌≡◌, ℕ, zero, suc, ◌+◌, ◌*◌, ◌==◌, Bool, true, false, List, [], ◌∷◌, slice_index_or, refl}
+use Rattle.std.specs.Prelude.{◌≡◌, ℕ, zero, suc, ◌+◌, ◌*◌, ◌==◌, Bool, true, false, List, [], ◌∷◌, length, slice_index_or, refl}
 use Rattle.std.proofs.Common.{cond}
 use Rattle.input_ports.specs.declared.Input.{Input as DeviceInput}
 use Rattle.input_ports.specs.Page.{stores_of, stores_after, vector_of}
@@ -11,7 +11,7 @@ use Rattle.script_lines.specs.declared.script.Event.{Event}
 use Rattle.script_lines.specs.declared.script.Event.TheVariants.{Input, EndInput, Frame, Device, Shot, Expect}
 use Rattle.script_lines.specs.Scripts.{ScriptView}
 use Rattle.uxn_limits.specs.declared.ports.TheConstants.{CONSOLE_VECTOR, CONSOLE_READ, CONSOLE_TYPE, SCREEN_VECTOR, AUDIO_VECTOR, VOICE_PORTS}
-use Rattle.varvara_bus.specs.History.{Store, stored, stored_short}
+use Rattle.varvara_bus.specs.History.{Store, made_ready, stored, stored_short}
 use Rattle.varvara_bus.specs.ReadsPort.{read_of}
 use Rattle.varvara_bus.specs.State.{DeviceState}
 use Rattle.vector_loop.specs.declared.tally.Tally.{Tally}
@@ -26,7 +26,7 @@ use Rattle.vector_loop.specs.Vector.{at_break, instruction, instructions, begun_
 use Rattle.vector_loop.specs.Event.{vector_in, unless_over, give_each, console, device, expected, samples_kept, vector_where, ended_vectors}
 use Rattle.vector_loop.specs.Event.{heard, shown_and_heard, frame, shot, happens, give}
 use Rattle.vector_loop.specs.PendingInputs.{pending_inputs_of, given}
-use Rattle.vector_loop.specs.Run.{made_ready, run}
+use Rattle.vector_loop.specs.Run.{run}
 
 -- states that differ in no byte of the memory and the stacks, in no file, and in no count of instructions
 pub record Alike (before now : State) : Type 0 where
@@ -186,7 +186,7 @@ module _ (outputs : Outputs) (Q : State → Trace → Type 0) (holds : HoldsOn o
   pub run-holds : (budget : ℕ) (script : ScriptView) (state : State) → Q state (run budget outputs script state)
   unfolding run
   run-holds budget script state =
-      let stores = made_ready script.arguments in
+      let stores = made_ready (length script.arguments) in
       let inputs = give_each (given budget outputs) (pending_inputs_of script) in
       holds.then state (vector budget 0x0100 (with_stored stores state)) inputs
       (stored-holds stores (vector budget 0x0100) (vector-holds budget 0x0100) state)

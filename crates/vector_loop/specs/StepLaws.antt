@@ -1,13 +1,13 @@
 -- The steps of a run, taken one after the other, are the run.
 use Rattle.std.specs.Prelude.{◌≡◌, ℕ, zero, suc, ◌==◌, ◌≤◌, ◌⊎◌, true, false, List, []}
 use Rattle.std.proofs.lemmas.Bool.{cases_Bool}
-use Rattle.std.specs.Prelude.{◌∷◌, Option, Some, None}
+use Rattle.std.specs.Prelude.{◌∷◌, length, Option, Some, None}
 use Rattle.std.proofs.Common.{inl, inr, cond, refl, ap, sym, subst, ◌∙◌, arith}
 use Rattle.std.proofs.lemmas.List.{append-nil}
 use Rattle.script_lines.specs.declared.script.Event.TheVariants.{Input, EndInput}
 use Rattle.script_lines.specs.Scripts.{ScriptView}
 use Rattle.uxn_limits.specs.declared.ports.TheConstants.{CONSOLE_VECTOR}
-use Rattle.varvara_bus.specs.History.{stored_short}
+use Rattle.varvara_bus.specs.History.{made_ready, stored_short}
 use Rattle.vector_loop.specs.declared.pending_input.PendingInput.{PendingInput}
 use Rattle.vector_loop.specs.declared.pending_input.PendingInput.TheVariants.{OfArgument, OfEvent}
 use Rattle.vector_loop.specs.declared.output.Outputs.{Outputs}
@@ -15,7 +15,7 @@ use Rattle.vector_loop.specs.State.{State, with_stored, is_over}
 use Rattle.vector_loop.specs.Trace.{Trace, stays, followed_by}
 use Rattle.vector_loop.specs.Vector.{at_break, instruction, instructions, begun_at, vector}
 use Rattle.vector_loop.specs.Event.{vector_in, unless_over, give_each, console, give}
-use Rattle.vector_loop.specs.Run.{made_ready, run}
+use Rattle.vector_loop.specs.Run.{run}
 use Rattle.vector_loop.specs.PendingInputs.{ConsoleByte, pending_inputs_of, given, console_byte_of, counted_input}
 use Rattle.vector_loop.specs.Places.{Place, place, PlaceHasEnded, cut_at, one_instruction, instruction_step, come_to, holding, vector_begins}
 use Rattle.vector_loop.specs.Places.{giving_by, idle_step, next_place, step, after_steps, run_begun, vector_left, run_left, whole_run, StepsAre}
@@ -131,7 +131,7 @@ run-begins : (budget : ℕ) (outputs : Outputs) (script : ScriptView) (state : S
 unfolding run
 run-begins budget outputs script state some =
     ap (λ t. followed_by t (give_each (given budget outputs) (pending_inputs_of script)))
-    (sym (vector-begun budget 0x0100 (with_stored (made_ready script.arguments) state) some))
+    (sym (vector-begun budget 0x0100 (with_stored (made_ready (length script.arguments)) state) some))
 
 -- nothing is left of a run that is over
 over-nothing : {X : Type 0} (given : X → State → Trace) (xs : List X) (state : State) → is_over state ≡ true

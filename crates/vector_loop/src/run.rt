@@ -4,14 +4,10 @@ ghost use Rattle.uxn_limits.specs.declared.limits.TheConstants.{MOST_EVENTS};
 ghost use Rattle.uxn_io_traits.specs.Ended.{RefusesNone};
 ghost use Rattle.uxn_io_traits.specs.Faults.{Ledger};
 ghost use Rattle.uxn_opcodes.specs.Ports.{result_blame};
-ghost use Rattle.script_lines.specs.Held.{bytes_in};
-ghost use Rattle.varvara_bus.specs.State.{DeviceState, storing};
 ghost use Rattle.varvara_bus.specs.Bus.{
   SameBorrowed,
   FilesStay,
   HasRoot,
-  BusRepresents,
-  ChangesDevices,
   meaning_of,
   frames_begun,
   bus_faults,
@@ -21,7 +17,7 @@ ghost use Rattle.vector_loop.specs.State.{new_tally};
 ghost use Rattle.vector_loop.specs.Outputs.{OutputsThere};
 ghost use Rattle.vector_loop.specs.Watch.{MayRefuse};
 ghost use Rattle.vector_loop.specs.Event.{unless_over, give_each};
-ghost use Rattle.vector_loop.specs.Run.{made_ready, most_of, run};
+ghost use Rattle.vector_loop.specs.Run.{most_of, run};
 ghost use Rattle.vector_loop.specs.PendingInputs.{given, input_count, counts_of};
 ghost use Rattle.vector_loop.specs.Follows.{running, models_of, FallsShortFrom, EndsFrom};
 ghost use Rattle.vector_loop.specs.Stops.{RunStops};
@@ -33,9 +29,8 @@ use crate::pending_input::PendingInput;
 use crate::runner::Runner;
 use crate::tally::Tally;
 use crate::watch::{Moment, Watcher};
-use console_port::{EventKind, KIND};
 use script_lines::Script;
-use uxn_io_traits::{Bytes, Sink, Tree};
+use uxn_io_traits::{Sink, Tree};
 use uxn_opcodes::{Core, Stop};
 use varvara_bus::Bus;
 
@@ -82,7 +77,7 @@ impl<'r, 'a, T: Tree, O: Sink, E: Sink, W: Watcher> Runner<'r, 'a, T, O, E, W> {
         ensures { Answers (models_of T.Tree O.Sink E.Sink W.Watcher) self.old self.new
             (run self.old.budget outputs.now script.now) (most_of script.now) result }
     {
-        make_ready(self.bus, script.args());
+        self.bus.make_ready(script.args().len());
         self.run_vector(RESET)?;
         self.give_all(InputQueue::new(script), outputs)
     }
@@ -99,18 +94,6 @@ impl<'r, 'a, T: Tree, O: Sink, E: Sink, W: Watcher> Runner<'r, 'a, T, O, E, W> {
             Ok(()) => Ok(self.tally),
             Err(_) => Err(Stop::NoMemory),
         }
-    }
-}
-
-/// Tells the program by port 17 whether arguments will come.
-fn make_ready<'a, T: Tree, O: Sink, E: Sink>(bus: &mut Bus<'a, T, O, E>, arguments: &[Bytes])
-    ensures devices { (state : DeviceState) → BusRepresents (contents_on T.Tree) bus.old state
-        → BusRepresents (contents_on T.Tree) bus.new (storing (made_ready (bytes_in arguments.now)) state) }
-    ensures others { ChangesDevices bus.old bus.new }
-    ensures frames { frames_begun bus.new ≡ frames_begun bus.old }
-{
-    if !arguments.is_empty() {
-        bus.store(KIND, EventKind::Input.byte());
     }
 }
 

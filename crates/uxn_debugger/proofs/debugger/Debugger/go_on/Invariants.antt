@@ -1,4 +1,4 @@
-use Rattle.std.proofs.Common.{◌≡◌, ◌≤◌, length}
+use Rattle.std.proofs.Common.{◌≡◌, ◌≤◌, ◌-◌, length}
 use Rattle.vector_loop.specs.Watch.{Page, IsPage}
 use Rattle.uxn_debugger.specs.Printing.{view}
 use Rattle.uxn_debugger.specs.Watching.{KeptNone, done, held_by}
@@ -14,4 +14,4 @@ invariant-loop-command g l = record {
 }
 
 abbrev pub decreases-loop-command : goal.decreases-loop-command
-decreases-loop-command g l = length (held_by l.self).commands
+decreases-loop-command g l = length l.self.commands.items - l.self.next

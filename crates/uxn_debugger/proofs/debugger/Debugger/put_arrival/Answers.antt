@@ -1,5 +1,5 @@
 use Rattle.std.proofs.Common.{◌≡◌, ◌++◌, List, refl, ap, ◌∙◌}
-use Rattle.std.specs.Prelude.{Result, Ok, Err, OnOk}
+use Rattle.std.proofs.lemmas.Result.{on_ok_weaker}
 use Rattle.tal_words.specs.declared.name.Label.{Label}
 use Rattle.uxn_debugger.specs.declared.place.Goal.{Goal}
 use Rattle.uxn_debugger.specs.declared.place.Goal.TheVariants.{FirstMoment, MomentAfter, BreakAddress, Nothing}
@@ -9,17 +9,11 @@ use Rattle.uxn_debugger.proofs.debugger.Debugger.put_arrival.Goals as goal
 
 arrives : (goal : Goal) (labels : List Label) (view : MomentView) → (goal ≡ FirstMoment → ⊥) → place_observed labels view ≡ arrival goal labels view
 arrives FirstMoment labels view other = absurd (other refl)
-arrives (MomentAfter n) labels view other = refl
-arrives BreakAddress labels view other = refl
-arrives Nothing labels view other = refl
-
-on_ok : {A E P Q : Type 0} (result : Result A E) → (P → Q) → OnOk result P → OnOk result Q
-on_ok (Ok x) f p = f p
-on_ok (Err e) f p = tt
+arrives _ labels view other = refl
 
 pub returns-in_default-clause-ok : goal.returns-in_default-clause-ok
 returns-in_default-clause-ok c =
-    on_ok c.put_place.result
+    on_ok_weaker c.put_place.result
     (λ put page.
     let observed = view c.args.core.now page c.args.place in
     ap (λ log. record (held_by c.args.self.now) { log = log })

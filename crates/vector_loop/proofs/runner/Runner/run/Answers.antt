@@ -1,5 +1,7 @@
-use Rattle.vector_loop.proofs.Common.{Err, Ok, arith, counts_of, give_each, given, of_vectors, refl, rules, storing, vector, with_stored, ◌≡◌}
-use Rattle.vector_loop.specs.Run.{made_ready, most_of, run}
+use Rattle.vector_loop.proofs.Common.{Err, Ok, ap, arith, counts_of, give_each, given, length, of_vectors, refl, rules, storing, sym, vector, with_stored, ◌∙◌, ◌≡◌}
+use Rattle.std.proofs.lemmas.List.{length-map}
+use Rattle.varvara_bus.specs.History.{made_ready}
+use Rattle.vector_loop.specs.Run.{most_of, run}
 use Rattle.vector_loop.specs.PendingInputs.{pending_inputs_of}
 use Rattle.vector_loop.proofs.Answering.{answers-by, answers-first, answers-stored, answers-then, answers-within, room-after}
 use Rattle.vector_loop.proofs.runner.Runner.run.Goals as goal
@@ -8,14 +10,14 @@ pub returns-in_err-run_vector : goal.returns-in_err-run_vector
 unfolding run
 returns-in_err-run_vector g c =
     let stop = c.in_err-run_vector.field-0.0 in
-    let ready = made_ready c.args.script.now.arguments in
+    let ready = made_ready (length c.args.script.now.arguments) in
+    let count = sym (length-map _ _) ∙ ap length c.args-2.ensures in
     let result : c.from_residual.result ≡ Err stop = search rules in
     rw result (answers-within _ _ _ _ (of_vectors 1) (most_of c.args.script.now) _ (omega arith) (omega arith)
     (answers-first _ _ _ (λ s. vector c.args.self.now.budget 0x0100 (with_stored ready s))
     (give_each (given c.args.self.now.budget c.args.outputs.now) (pending_inputs_of c.args.script.now)) (of_vectors 1) stop
-    (answers-stored _ c.args.self.now (record c.args.self.now { bus = record c.args.self.now.bus { now = c.make_ready.new.bus } }) _ (storing ready)
-    (vector c.args.self.now.budget 0x0100) (of_vectors 1) (Err stop) refl refl refl c.make_ready.ensures.others c.make_ready.ensures.frames
-    (rw c.args-2.ensures at c.make_ready.ensures.devices) c.in_err-run_vector.ensures.answers)))
+    (answers-stored _ _ _ _ (storing ready) (vector c.args.self.now.budget 0x0100) (of_vectors 1) (Err stop) refl refl refl
+    c.make_ready.ensures.others c.make_ready.ensures.frames (rw count at c.make_ready.ensures.devices.bus) c.in_err-run_vector.ensures.answers)))
 
 pub give_all-requires-clause-frames : goal.give_all-requires-clause-frames
 give_all-requires-clause-frames g c =
@@ -30,12 +32,12 @@ pub returns : goal.returns
 unfolding run
 returns g c =
     let pending_inputs = pending_inputs_of c.args.script.now in
-    let ready = made_ready c.args.script.now.arguments in
+    let ready = made_ready (length c.args.script.now.arguments) in
+    let count = sym (length-map _ _) ∙ ap length c.args-2.ensures in
     answers-then _ _ _ _ (λ s. vector c.args.self.now.budget 0x0100 (with_stored ready s))
     (give_each (given c.args.self.now.budget c.args.outputs.now) pending_inputs) (of_vectors 1)
     (counts_of pending_inputs) c.in_ok-run_vector.field-0 _
-    (answers-stored _ c.args.self.now (record c.args.self.now { bus = record c.args.self.now.bus { now = c.make_ready.new.bus } }) _ (storing ready)
-    (vector c.args.self.now.budget 0x0100) (of_vectors 1) (Ok c.in_ok-run_vector.field-0) refl refl refl c.make_ready.ensures.others
-    c.make_ready.ensures.frames (rw c.args-2.ensures at c.make_ready.ensures.devices) c.in_ok-run_vector.ensures.answers)
+    (answers-stored _ _ _ _ (storing ready) (vector c.args.self.now.budget 0x0100) (of_vectors 1) (Ok c.in_ok-run_vector.field-0) refl refl refl
+    c.make_ready.ensures.others c.make_ready.ensures.frames (rw count at c.make_ready.ensures.devices.bus) c.in_ok-run_vector.ensures.answers)
     (answers-by _ _ _ (λ n. give_each (given n c.args.outputs.now) pending_inputs) (counts_of pending_inputs) _ _
     c.in_ok-run_vector.ensures.answers.same.budget (rw c.new.ensures at c.give_all.ensures))
