@@ -14,8 +14,6 @@ use Rattle.uxn_arguments.specs.declared.task.DebugTask.{DebugTask}
 use Rattle.uxn_arguments.specs.declared.task.RunTask.{RunTask}
 use Rattle.uxn_arguments.specs.declared.task.Task.{Task}
 use Rattle.uxn_arguments.specs.declared.task.Task.TheVariants as tasks
-use Rattle.uxn_task_files.specs.Accepted.{Loaded}
-use Rattle.uxn_task_files.specs.Held.{model_of_program}
 use Rattle.uxn_task_files.specs.Made.{Made}
 use Rattle.uxn_task_files.specs.Outputs.{paths_of}
 use Rattle.uxn_task_files.specs.declared.refusal.Halt.{Halt}
@@ -34,26 +32,23 @@ printed_plan text = planned (Print text.items) []
 abbrev pub AreNew : Devices → ScriptView → Option (List ℕ) → Type 0
 AreNew devices script root = (part : Nodes) (parent : Bool) → DevicesRepresent devices (new_state (clock_by script.clock) root part parent)
 
-abbrev pub session_debugging : Loaded → Session → Debugging
-session_debugging program session = debugging session.task session.commands.items program.labels
+abbrev pub session_debugging : Session → Debugging
+session_debugging session = debugging session.task session.commands.items session.labels.items
 
 abbrev pub prepared_debugging : Prepared → Option Debugging
-prepared_debugging prepared = option_map (λ session. session_debugging (model_of_program prepared.program) session.value) prepared.session
+prepared_debugging prepared = option_map (λ session. session_debugging session.value) prepared.session
 
-abbrev pub prepared_job : RunTask → Prepared → RunJob
-prepared_job run prepared = record {
-  task = run;
-  rom = (model_of_program prepared.program).rom;
-  script = prepared.machine.value.script;
-  debug = prepared_debugging prepared;
-}
+-- of a ROM, which its machine has loaded
+abbrev pub prepared_job : RunTask → List ℕ → Prepared → RunJob
+prepared_job run rom prepared =
+    record { task = run; rom = rom; script = prepared.machine.value.script; debug = prepared_debugging prepared }
 
-abbrev pub prepared_plan : RunTask → Prepared → Plan
-prepared_plan run prepared = planned (Run (prepared_job run prepared)) (model_of_program prepared.program).included
+abbrev pub prepared_plan : RunTask → List ℕ → Prepared → Plan
+prepared_plan run rom prepared = planned (Run (prepared_job run rom prepared)) prepared.included.items
 
 -- a run that is ready: its machine is new, its debugger keeps no moments yet, and its files are its outputs
-pub record IsReadyRun (run : RunTask) (debug : Option DebugTask) (prepared : Prepared) : Type 0 where
-  pub core : prepared.machine.value.core ≡ new_core (model_of_program prepared.program).rom
+pub record IsReadyRun (run : RunTask) (debug : Option DebugTask) (rom : List ℕ) (prepared : Prepared) : Type 0 where
+  pub core : prepared.machine.value.core ≡ new_core rom
   pub devices : AreNew prepared.machine.value.devices prepared.machine.value.script run.root
   pub undo : IfSome prepared.session (λ session. session.value.undo ≡ [])
   pub outputs : paths_of prepared.outputs.items ≡ run_outputs run debug
@@ -61,9 +56,10 @@ pub record IsReadyRun (run : RunTask) (debug : Option DebugTask) (prepared : Pre
 -- a run that is prepared: its inputs were accepted, it is ready, and its outputs were made
 pub record IsPreparedRun (run : RunTask) (debug : Option DebugTask) (before now : TreeState) (prepared : Prepared) : Type 0 where
   pub start : TreeState
-  pub asks : Inquires (prepared_plan run) (run_plan_of run debug) before start (Ok prepared)
-  pub ready : IsReadyRun run debug prepared
-  pub makes : Made (model_of_program prepared.program).included (run_outputs run debug) start now
+  pub rom : List ℕ
+  pub asks : Inquires (prepared_plan run rom) (run_plan_of run debug) before start (Ok prepared)
+  pub ready : IsReadyRun run debug rom prepared
+  pub makes : Made prepared.included.items (run_outputs run debug) start now
 
 -- to prepare a run ends so, or its task is refused or ends early, whatever the sinks are
 abbrev pub Prepares : RunTask → Option DebugTask → TreeState → TreeState → Result Prepared Halt → Type 0

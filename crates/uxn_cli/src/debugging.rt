@@ -2,7 +2,6 @@
 ghost use Rattle.std.specs.Prelude.{◌≡◌, ◌≤◌, [], None, Some, IsSome};
 ghost use Rattle.uxn_io_traits.specs.Ended.{RefusesNone};
 ghost use Rattle.vector_loop.specs.Outputs.{IsOutput};
-ghost use Rattle.uxn_task_files.specs.Held.{model_of_program};
 ghost use Rattle.uxn_cli.specs.Outside.{SameHost, outside_of};
 ghost use Rattle.uxn_cli.specs.Prepared.{AreNew, session_debugging};
 ghost use Rattle.uxn_cli.specs.RunsFromRoot.{RunsFromRoot, RunFiles, task_trace, logged_changes};
@@ -12,11 +11,11 @@ use super::machine::{Machine, core_known};
 use super::running::{RunEnd, run_made, write_text};
 use debug_commands::DebugCommand;
 use std::alloc::Global;
+use tal_words::Label;
 use uxn_arguments::{DebugTask, RunTask};
 use uxn_debugger::{Debugger, the_log_is_that_of_the_run};
 use uxn_io_traits::{Sink, Tree};
 use uxn_opcodes::Stop;
-use uxn_task_files::Program;
 use uxn_undo::Undo;
 
 /// What a debugger does with a run.
@@ -26,6 +25,8 @@ pub struct Session {
     pub task: DebugTask,
     /// The commands.
     pub commands: Vec<DebugCommand>,
+    /// The labels that its log names.
+    pub labels: Vec<Label>,
     /// What keeps the moments that commands go back to.
     pub undo: Undo,
 }
@@ -35,7 +36,6 @@ pub fn run_session<T: Tree, O: Sink, E: Sink>(
     alloc: Global,
     run: &RunTask,
     machine: &mut Machine,
-    program: &Program,
     session: Box<Session>,
     host: &mut Host<'_, '_, '_, T, O, E>,
 ) -> Result<RunEnd, Stop>
@@ -45,7 +45,7 @@ pub fn run_session<T: Tree, O: Sink, E: Sink>(
     requires files { RunFiles run.now (T.state host.old.tree.now).contents }
     requires log { IsOutput run.now.root (T.state host.old.tree.now).contents session.value.task.log }
     ensures runs { RunsFromRoot run.now.root (task_trace run.now machine.old)
-        (logged_changes run.now machine.old (Some (session_debugging (model_of_program program.now) session.value))) (IsSome (Some session))
+        (logged_changes run.now machine.old (Some (session_debugging session.value))) (IsSome (Some session))
         (outside_of T.Tree O.Sink E.Sink host.old) (outside_of T.Tree O.Sink E.Sink host.new) result }
     ensures refusals { run.now.root ≡ None → RefusesNone (T.state host.old.tree.now) (T.state host.new.tree.now) }
     ensures same { SameHost host.old host.new }
@@ -55,9 +55,10 @@ pub fn run_session<T: Tree, O: Sink, E: Sink>(
     let Session {
         task,
         commands,
+        labels,
         undo,
     } = Box::into_inner(session);
-    let mut debugger = Debugger::new(alloc, commands, &program.labels, undo);
+    let mut debugger = Debugger::new(alloc, commands, &labels, undo);
     let end = run_made(run, machine, host, &mut debugger)?;
     write_text(&Some(task.log), debugger.log(), host.tree)
         .and(Ok(end))

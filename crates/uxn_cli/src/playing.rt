@@ -5,7 +5,6 @@ ghost use Rattle.uxn_arguments.specs.Places.{HasApartOutputs};
 ghost use Rattle.uxn_arguments.specs.declared.task.Task.TheVariants as tasks;
 ghost use Rattle.vector_loop.specs.Outputs.{IsOutput};
 ghost use Rattle.uxn_arguments.specs.Options.{run_outputs as output_paths};
-ghost use Rattle.uxn_task_files.specs.Accepted.{Loaded};
 ghost use Rattle.uxn_task_files.specs.Outputs.{paths_of};
 ghost use Rattle.uxn_cli.specs.Verdict.{run_plan};
 ghost use Rattle.uxn_memory.specs.Bytes.{largest_rom};
@@ -21,22 +20,23 @@ use super::machine::{Machine, new_machine};
 use super::running::{RunEnd, run_made};
 use debug_commands::DebugCommand;
 use std::alloc::{AllocError, Global};
+use tal_words::Label;
 use uxn_arguments::{DebugTask, RunTask, run_outputs};
-use uxn_io_traits::{Sink, Tree};
+use uxn_io_traits::{Path, Sink, Tree};
 use uxn_opcodes::Stop;
 use uxn_task_files::{Halt, Output, Program, RunInputs, empty_outputs, make_outputs, read_run};
 use uxn_undo::Undo;
 use vector_loop::NoWatch;
 
-/// A machine, the program that it has, and what a debugger does with its run, where one watches it.
+/// A machine, what a debugger does with its run, where one watches it, and the files of the run.
 #[derive(Drop)]
 pub struct Prepared {
     /// The machine.
     pub machine: Box<Machine>,
-    /// The program.
-    pub program: Program,
     /// The session of a debugger.
     pub session: Option<Box<Session>>,
+    /// The files that its source includes.
+    pub included: Vec<Path>,
     /// The files that it writes, which have no bytes yet.
     pub outputs: Vec<Output>,
 }
@@ -46,9 +46,10 @@ fn open_session(
     alloc: Global,
     debug: &Option<DebugTask>,
     commands: Vec<DebugCommand>,
+    labels: Vec<Label>,
 ) -> Result<Option<Box<Session>>, AllocError>
-    ensures debugger { IfOk result (λ opened. (program : Loaded) → option_map (λ session. session_debugging program session.value) opened
-        ≡ option_map (λ task. debugging task commands.items program.labels) debug.now) }
+    ensures debugger { IfOk result (λ opened. option_map (λ session. session_debugging session.value) opened
+        ≡ option_map (λ task. debugging task commands.items labels.items) debug.now) }
     ensures undo { IfOk result (λ opened. IfSome opened (λ session. session.value.undo ≡ [])) }
 {
     let Some(task) = debug else {
@@ -58,6 +59,7 @@ fn open_session(
     let session = Session {
         task: *task,
         commands,
+        labels,
         undo,
     };
     let boxed = Box::new(alloc, session)?;
@@ -84,21 +86,27 @@ fn ready(
     inputs: RunInputs,
 ) -> Result<Prepared, AllocError>
     requires room { length (model_of_program inputs.program).rom ≤ largest_rom }
-    ensures ready { IfOk result (IsReadyRun run.now debug.now) }
-    ensures plan { IfOk result (λ prepared. prepared_plan run.now prepared ≡ run_plan run.now debug.now (model_of_inputs inputs)) }
+    ensures ready { IfOk result (IsReadyRun run.now debug.now (model_of_program inputs.program).rom) }
+    ensures plan { IfOk result (λ prepared. prepared_plan run.now (model_of_program inputs.program).rom prepared
+        ≡ run_plan run.now debug.now (model_of_inputs inputs)) }
 {
     let RunInputs {
-        program,
+        program:
+            Program {
+                rom,
+                labels,
+                included,
+            },
         script,
         commands,
     } = inputs;
-    let machine = new_machine(alloc, run.root, program.rom.as_slice(), script)?;
-    let session = open_session(alloc, debug, commands)?;
+    let machine = new_machine(alloc, run.root, rom.as_slice(), script)?;
+    let session = open_session(alloc, debug, commands, labels)?;
     let outputs = new_outputs(alloc, run, debug)?;
     Ok(Prepared {
         machine,
-        program,
         session,
+        included,
         outputs,
     })
 }
@@ -116,7 +124,7 @@ fn prepare<T: Tree>(
 {
     let inputs = read_run(alloc, run, debug, tree)?;
     let prepared = ready(alloc, run, debug, inputs)?;
-    make_outputs(&prepared.program.included, &prepared.outputs, tree)?;
+    make_outputs(&prepared.included, &prepared.outputs, tree)?;
     Ok(prepared)
 }
 
@@ -140,12 +148,12 @@ fn run_prepared<T: Tree, O: Sink, E: Sink>(
 {
     let Prepared {
         mut machine,
-        program,
         session,
+        included: _,
         outputs: _,
     } = prepared;
     match session {
-        Some(session) => run_session(alloc, run, &mut machine, &program, session, host),
+        Some(session) => run_session(alloc, run, &mut machine, session, host),
         None => run_made(run, &mut machine, host, &mut NoWatch),
     }
 }

@@ -547,13 +547,13 @@ module _ (run : RunTask) (asked : Option DebugTask) (before made : TreeState) (p
   debug = prepared_debugging prepared
 
   abbrev ready_job : RunJob
-  ready_job = prepared_job run prepared
+  ready_job = prepared_job run of.rom prepared
 
   abbrev ready_view : RootView
   ready_view = root_view_in start.contents run.root
 
-  plan : IsPlanned start.contents task (prepared_plan run prepared)
-  plan = accepted-after (prepared_plan run) task before start prepared of.asks
+  plan : IsPlanned start.contents task (prepared_plan run of.rom prepared)
+  plan = accepted-after (prepared_plan run of.rom) task before start prepared of.asks
 
   outputs : outputs_of task ≡ job_outputs ready_job
   outputs = plan-outputs start.contents task _ plan
@@ -641,4 +641,4 @@ module _ (run : RunTask) (asked : Option DebugTask) (before made : TreeState) (p
     does-ready = grind (arith, root_view, does-contents, ready-trace, performs, ledger-then, begun, same-blame, passes)
 
     pub does-run : (result : Result RunEnd Stop) → Went result → DoesWork (Ok task) (host_state before out err) now (run_answer result)
-    does-run result runs = does-behind (prepared_plan run) task before start out err now (run_answer result) prepared of.asks (does-ready result runs)
+    does-run result runs = does-behind (prepared_plan run of.rom) task before start out err now (run_answer result) prepared of.asks (does-ready result runs)

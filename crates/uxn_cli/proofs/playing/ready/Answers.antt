@@ -1,4 +1,4 @@
-use Rattle.uxn_cli.proofs.Clauses.Works.Changes.Names.{◌∙◌, ap, refl, new_core, model_of_program}
+use Rattle.uxn_cli.proofs.Clauses.Works.Changes.Names.{◌∙◌, ap, refl, new_core}
 use Rattle.uxn_cli.proofs.playing.ready.Goals as goal
 
 pub returns-clause-ready : goal.returns-clause-ready
@@ -10,4 +10,4 @@ returns-clause-ready c = record {
 }
 
 pub returns-clause-plan : goal.returns-clause-plan
-returns-clause-plan c = rw (c.in_ok-machine.ensures.script, c.in_ok-session.ensures.debugger (model_of_program c.args.inputs.program)) refl
+returns-clause-plan c = rw (c.in_ok-machine.ensures.script, c.in_ok-session.ensures.debugger) refl
