@@ -88,7 +88,12 @@ pub(crate) fn read_on<T: Tree>(
             Ok((taken, Mode::ReadingFile(place + u64::from(taken))))
         }
         Mode::ReadingListing(place, listing) => {
-            let taken = put_rest(listing.as_slice(), place, memory, span.first(u64::MAX - place));
+            let taken = put_rest(
+                listing.as_slice(),
+                place,
+                memory,
+                span.first(u64::MAX - place),
+            );
             Ok((
                 taken,
                 Mode::ReadingListing(place + u64::from(taken), listing),

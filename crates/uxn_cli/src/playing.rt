@@ -91,12 +91,11 @@ fn ready(
         ≡ run_plan run.now debug.now (model_of_inputs inputs)) }
 {
     let RunInputs {
-        program:
-            Program {
-                rom,
-                labels,
-                included,
-            },
+        program: Program {
+            rom,
+            labels,
+            included,
+        },
         script,
         commands,
     } = inputs;
