@@ -46,8 +46,7 @@ module _ (labels : List Label) (moments : List Shown) (end : Shown) where
     -- one more is kept
     pub keeps : (i : ℕ) (s : Shown) (left : List Shown) → drop i moments ≡ s ∷ left
         → holding (kept_at s.core s.page.stored ∷ undo_at i) ≡ undo_at (i + 1)
-    keeps i s left is =
-        laws.holding.one_more (kept_before i) (kept_at s.core s.page.stored) ∙ sym (ap (λ given. holding (map kept_of given)) (given_next i s left is))
+    keeps = search (rules, given_next)
 
     -- what is kept of a moment that is held
     pub record IsKept (i less : ℕ) : Type 0 where

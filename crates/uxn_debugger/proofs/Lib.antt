@@ -6,6 +6,4 @@ pub mod LogLaw
 pub mod RunLog
 pub mod BitSets
 pub mod Tables
-pub mod Nearest
 pub mod Obeying
-pub mod Keeping

@@ -286,10 +286,7 @@ module _ (labels : List Label) (moments : List Shown) (end : Shown) where
           ∙ sym (ap (λ index. log_from (met goal breaks log index) commands) (index-later goal breaks waits other))
 
       comes-moment : Comes i (s ∷ left)
-      comes-moment commands goal breaks log waits = elim (cases_Bool (is_awaited goal breaks s.moment.address)) [
-        | inl awaited ↦ comes-awaited commands goal breaks log waits awaited
-        | inr other ↦ comes-later commands goal breaks log waits other
-      ]
+      comes-moment = search (rules, comes-awaited, comes-later)
 
     module _ (i : ℕ) (is : i ≡ length moments) (none : drop i moments ≡ []) where
       -- what is done at the end

@@ -147,19 +147,18 @@ impl<'a> Debugger<'a> {
             → held_by self.new ≡ with_arrival (view core.now page place) (held_by self.old)) }
         ensures kept { KeptNone (held_by self.old) (held_by self.new) }
     {
-        match self.goal {
-            Goal::FirstMoment => Ok(()),
-            _ => {
-                let scene = Scene {
-                    core,
-                    place,
-                    undo: &self.undo,
-                    back: 0,
-                    labels: self.labels,
-                };
-                put_place(&mut self.log, &scene)
-            }
+        if let Goal::FirstMoment = self.goal {
+            return Ok(());
         }
+        let scene = Scene {
+            core,
+            place,
+            undo: &self.undo,
+            back: 0,
+            labels: self.labels,
+        };
+        put_place(&mut self.log, &scene)?;
+        Ok(())
     }
 
     // Does commands until one goes on, or none is left.

@@ -92,8 +92,7 @@ turn-way machine line line_now out out_now (Err failed) fails job begun way = wa
 
 -- a move behind others, or behind none
 pub works-more : (moved : Bool) (a b c : Line) → WorksOn moved a b → WorksOn true b c → WorksOn true a c
-works-more true a b c = grind (arith, common_steps)
-works-more false a b c = grind (arith, common_steps)
+works-more = grind (arith, common_steps)
 
 -- of a line under way that stopped
 pub way-stops : (job : LineJob) (begun : SinkState) (a b : Line) (o p : SinkState) → IsUnderWay job begun a o → LineStops a b o p

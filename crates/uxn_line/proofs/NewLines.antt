@@ -1,5 +1,5 @@
 -- A new line represents no turns.
-use Rattle.uxn_line.proofs.Common.{common_steps, arith, pos, slice_index_or, get_or-map, slice_get-last, slice_get-push, BeginsWith, ◌≡◌, ◌≢◌, ℕ}
+use Rattle.uxn_line.proofs.Common.{rules, common_steps, arith, pos, slice_index_or, get_or-map, slice_get-last, slice_get-push, BeginsWith, ◌≡◌, ◌≢◌, ℕ}
 use Rattle.uxn_line.proofs.Common.{zero, suc, ◌<◌, inl, inr, Bool, true, false, List, [], ◌∷◌, ◌++◌, get_or, length, refl, sym, ap, ◌∙◌, Some}
 use Rattle.uxn_line.proofs.Common.{slice_get, cases_eq, buffer, ByteList, bytes_in, Member, LineJob, script_at, rom_at, first_place, stream, MemberAt}
 use Rattle.uxn_line.proofs.Common.{none_turned, RingBefore, InLine, inputs, Result, Ok, Err}
@@ -10,10 +10,7 @@ use Rattle.uxn_line.proofs.Coming.{all-inputs, inputs-some}
 
 -- nothing was given yet
 new-ring : (over : Bool) (job : LineJob) (machine : ℕ) (ring : List ℕ) → ring ≡ [] → RingBefore over job none_turned machine ring
-new-ring true job machine ring none = none
-new-ring false job zero ring none = none
-new-ring false job (suc before) ring none = λ rest whole.
-    inl (all-inputs job before ∙ ap inputs whole ∙ ap (λ r. inputs (r ++ rest)) (sym none))
+new-ring = grind (arith, common_steps, all-inputs)
 
 pub new-in-line : (job : LineJob) (machine : ℕ) (member : Member)
     → MemberAt member (first_place job.budget (rom_at job machine) (script_at job machine)) → member.ring ≡ buffer [] 256
@@ -32,15 +29,12 @@ pub begins-in-line : {E : Type 0} (result : Result Member E) (script : ScriptVie
     → IfOk result (λ member. member.ring ≡ buffer [] 256)
     → ((job : LineJob) → job.script ≡ script → BeginsWith (script_at job machine) texts clock all_given)
     → IfOk result (λ member. (job : LineJob) → job.script ≡ script → job.budget ≡ budget → rom_at job machine ≡ rom → InLine job none_turned machine member)
-begins-in-line (Ok member) script budget machine rom texts clock all_given stands ring begins = λ job is_script is_budget is_rom.
-    new-in-line job machine member (place-is member (script_at job machine) _ _ _ _ is_budget is_rom (stands (script_at job machine) (begins job is_script))) ring
-begins-in-line (Err want) script budget machine rom texts clock all_given stands ring begins = tt
+begins-in-line = search (rules, new-in-line, place-is)
 
 -- a machine behind another begins with nothing of the script, and is given something
 pub behind-begins : (job : LineJob) (machine : ℕ) → machine ≢ 0
     → BeginsWith (script_at job machine) [] (record { seconds = pos 0; offset = pos 0 }) false
-behind-begins job zero behind = absurd (behind refl)
-behind-begins job (suc before) behind = grind (arith, common_steps, all-inputs job before, inputs-some (stream job before))
+behind-begins = grind (arith, common_steps, all-inputs, inputs-some)
 
 -- the ROM at a place
 pub rom-there : (roms : List ByteList) (place : ℕ) (rom : ByteList) → place < length roms → rom ≡ get_or roms place rom

@@ -56,11 +56,7 @@ pub record RunsAt (bytes : List ℕ) (line : Line) (machine : ℕ) (member : Mem
 pub runs-at : (bytes : List ℕ) (line : Line) (machine : ℕ) (member : Member) → machine < length line.members.items
     → member ≡ get_or line.members.items machine member → member.machine.left ≢ 0 → bytes ≡ handed_on member.machine.core
     → RunsAt bytes line machine member
-runs-at bytes line machine member within read some is = record {
-  there = slice_get_read line.members.items (length line.members.items) machine member refl within read;
-  vector = omega arith;
-  writes = sym is;
-}
+runs-at = grind (arith, common_steps, slice_get_read)
 
 module _ (bytes : List ℕ) (line : Line) (machine : ℕ) (member : Member) (runs : RunsAt bytes line machine member) where
   -- so it is not at its end
@@ -83,10 +79,7 @@ module _ (bytes : List ℕ) (line : Line) (machine : ℕ) (member : Member) (run
   -- it is found again once its bytes were handed on
   pub found-same : (between : Line) (out out_now : SinkState) (found : Member) → HandedOn machine bytes line between out out_now
       → found ≡ get_or between.members.items machine found → found ≡ member
-  found-same between out out_now found handed read =
-      let items = line.members.items in
-      found-is between.members.items machine found member read
-      (rw handed.members (handed-other bytes (suc machine) machine items (λ same. omega arith) ∙ runs.there))
+  found-same = grind (arith, common_steps, found-is, handed-other)
 
   -- its bytes were handed on, and it ran
   pub ran-came : (between : Line) (out out_now : SinkState) (found now : Member) → HandedOn machine bytes line between out out_now

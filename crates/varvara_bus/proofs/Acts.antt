@@ -13,8 +13,6 @@ use Rattle.uxn_io_traits.specs.Ended.{TreeEnded, Ended, CutShort, RefusesNone, A
 use Rattle.uxn_io_traits.specs.EndedLaws.{done-nothing, ended-then, outside-of-tree, refuses-nothing}
 use Rattle.uxn_io_traits.specs.declared.trees.Tree as trees
 use Rattle.file_ports.specs.declared.stop.FileStop.{FileStop}
-use Rattle.file_ports.specs.declared.stop.FileStop.TheVariants as causes
-use Rattle.file_ports.specs.Device.{Suits}
 use Rattle.file_ports.specs.RootPart.{LieIn}
 use Rattle.file_ports.specs.Actions.{FileOutcome}
 use Rattle.file_ports.specs.ActLaws.{act-lies, of-tree}
@@ -28,7 +26,6 @@ use Rattle.varvara_bus.specs.declared.ports.Action.{Action}
 use Rattle.varvara_bus.specs.declared.ports.Action.TheVariants.{ActsOnFile}
 use Rattle.varvara_bus.specs.declared.ports.FileAct.{FileAct}
 use Rattle.varvara_bus.specs.declared.ports.FileNumber.{FileNumber}
-use Rattle.varvara_bus.specs.declared.ports.FileNumber.TheVariants.{First, Second}
 use Rattle.varvara_bus.specs.State.{DeviceState, DevicesRepresent, HasFiles, device_clock, storing}
 use Rattle.varvara_bus.specs.Effect.{asks_tree, no_effect, act}
 use Rattle.varvara_bus.specs.FileActs.{file_base, file_in, file_action, file_outcome, file_acted}
@@ -36,41 +33,31 @@ use Rattle.varvara_bus.specs.FileCalls.{stop_of, stopped_by_tree, FileAnswers, F
 use Rattle.varvara_bus.specs.Bus.{BusModel, SameBus, Becomes, RepresentsTo, ComesTo, KeepsBus, Leaves, file_held, held_page, outside_on}
 use Rattle.varvara_bus.specs.Bus.{Makes, HasActed, HasStopped, ActEnds, contents_on}
 use Rattle.varvara_bus.specs.InstructionLaws.{same-again}
+use Rattle.varvara_bus.specs.Laws.{suits-file}
 use Rattle.varvara_bus.proofs.FileCalls.{files-now}
 
 -- who counted a fault, where a sink was to take bytes
 pub sink-ledger : (changes : List Change) (answer : Result (Unit {0}) Stop) (put : Result (Unit {0}) Failed) (before now : Outside)
     → is_err answer ≡ is_err put → OnErr answer (answer ≡ Err SinkFault) → Ended changes (blame_of_sink (is_err put)) before now
     → Ledger before.faults now.faults (result_blame answer)
-sink-ledger changes (Ok done) (Err failed) before now same sink ended = cc
-sink-ledger changes (Err stop) (Ok done) before now same sink ended = cc
-sink-ledger changes (Ok done) (Ok put) before now same sink ended = ended.ledger
-sink-ledger changes (Err TreeFault) (Err failed) before now same sink ended = cc
-sink-ledger changes (Err NoMemory) (Err failed) before now same sink ended = cc
-sink-ledger changes (Err SinkFault) (Err failed) before now same sink ended = ended.ledger
+sink-ledger = search rules
 
 -- and where a file device was to act
 tree-ledger : (failed : Bool) (a b out err : FaultTally) → Counted a b failed
     → Ledger (counts a out err) (counts b out err) (if failed then TheTree else Nobody)
-tree-ledger false a b out err counted = record { tree = counted; out = counted-same out; err = counted-same err }
-tree-ledger true a b out err counted = record { tree = counted; out = counted-same out; err = counted-same err }
+tree-ledger = search (rules, counted-same)
 
 no-sink : (cause : FileStop) → SinkFault ≡ stop_of cause → ⊥
-no-sink causes.TreeFault is = cc
-no-sink causes.NoMemory is = cc
+no-sink = search rules
 
 pub file-ledger : (number : FileNumber) (part : FileAct) (held held_now : Devices) (bytes memory : List ℕ) (contents : Option Nodes)
     (answer : Result (Unit {0}) Stop) (a b out err : FaultTally) → Counted a b (stopped_by_tree answer)
     → FileAnswers number part held bytes contents answer held_now memory → Ledger (counts a out err) (counts b out err) (result_blame answer)
-file-ledger number part held held_now bytes memory contents (Ok done) a b out err counted acted = tree-ledger false a b out err counted
-file-ledger number part held held_now bytes memory contents (Err TreeFault) a b out err counted stopped = tree-ledger true a b out err counted
-file-ledger number part held held_now bytes memory contents (Err NoMemory) a b out err counted stopped = tree-ledger false a b out err counted
-file-ledger number part held held_now bytes memory contents (Err SinkFault) a b out err counted stopped = absurd (no-sink stopped.cause stopped.is)
+file-ledger = search (rules, tree-ledger, no-sink)
 
 -- a byte stored leaves the file devices
 pub same-file : (number : FileNumber) (devices : Devices) (port byte : ℕ) → file_held number (record devices { page = slice_set devices.page port byte }) ≡ file_held number devices
-same-file First devices port byte = refl
-same-file Second devices port byte = refl
+same-file = search rules
 
 -- a tree that is as it was refused no file
 pub tree-refuses : {T : Type 0} (of_tree : trees.Ghosts T) (before now : T) → now ≡ before → RefusesNone (of_tree.state before) (of_tree.state now)
@@ -100,18 +87,7 @@ module _ {T O E : Type 0} (meaning : BusModel T O E) where
       → devices.now.time.frames ≡ before.devices.now.time.frames → device_clock devices.now ≡ device_clock before.devices.now
       → devices.now.root ≡ before.devices.now.root
       → Stored before (record { devices = devices; tree = before.tree; out = before.out; err = before.err }) port byte
-  byte_stored before devices port byte borrowed is stands frames clock root = record {
-    devices = record {
-      devices = stands;
-      bus = λ state stood. record { devices = stands state stood.devices; files = stood.files };
-    };
-    page = ap (λ (d : Devices). d.page) is;
-    files = λ number. ap (file_held number) is ∙ same-file number before.devices.now port byte;
-    tree = refl;
-    out = refl;
-    err = refl;
-    same = devices-same before devices borrowed frames clock root;
-  }
+  byte_stored = search (rules, same-file, devices-same)
 
   -- that made no change outside
   stored-makes : (before now : Bus T O E) (port byte : ℕ) → Stored before now port byte → Makes meaning before now []
@@ -133,27 +109,7 @@ module _ {T O E : Type 0} (meaning : BusModel T O E) where
       (outside_on meaning (record { devices = before.devices; tree = before.tree; out = out; err = err }))
       → out.ghost_name ≡ before.out.ghost_name → err.ghost_name ≡ before.err.ghost_name
       → ActEnds meaning before core action byte (record { devices = before.devices; tree = before.tree; out = out; err = err }) core answer
-  sink-ends before out err core action byte changes (Ok done) (Err failed) none is leaves same sink ended borrowed_out borrowed_err = cc
-  sink-ends before out err core action byte changes (Err stop) (Ok done) none is leaves same sink ended borrowed_out borrowed_err = cc
-  sink-ends before out err core action byte changes (Ok done) (Ok put) none is leaves same sink ended borrowed_out borrowed_err = record {
-    does = rw none (λ state stands. rw (is state) (record {
-      core = refl;
-      devices = (stands, refl);
-      makes = ended;
-    }));
-    same = sinks-same before out err borrowed_out borrowed_err;
-  }
-  sink-ends before out err core action byte changes (Err TreeFault) (Err failed) none is leaves same sink ended borrowed_out borrowed_err = cc
-  sink-ends before out err core action byte changes (Err NoMemory) (Err failed) none is leaves same sink ended borrowed_out borrowed_err = cc
-  sink-ends before out err core action byte changes (Err SinkFault) (Err failed) none is leaves same sink ended borrowed_out borrowed_err = record {
-    cut = λ state stands. rw (is state) ended;
-    leaves = leaves;
-    keeps = rw none (refl, refl);
-    page = refl;
-    memory = λ wanted. cc;
-    names = λ wanted. cc;
-    same = sinks-same before out err borrowed_out borrowed_err;
-  }
+  sink-ends = search (rules, sinks-same)
 
   pub devices_done : (before : Bus T O E) (devices : MutBor Devices) (core : Core) (action : Action) (byte : ℕ) (done : DeviceState → DeviceState)
       → ((state : DeviceState) → act action byte state core ≡ no_effect (done state) core)
@@ -162,40 +118,25 @@ module _ {T O E : Type 0} (meaning : BusModel T O E) where
       → devices.now.time.frames ≡ before.devices.now.time.frames → device_clock devices.now ≡ device_clock before.devices.now
       → devices.now.root ≡ before.devices.now.root
       → HasActed meaning [] before core action byte (record { devices = devices; tree = before.tree; out = before.out; err = before.err }) core
-  devices_done before devices core action byte done is stands none borrowed frames clock root = record {
-    does = rw none (λ state stood. rw (is state) (record {
-      core = refl;
-      devices = (stands state stood, refl);
-      makes = done-nothing (outside_on meaning before);
-    }));
-    same = devices-same before devices borrowed frames clock root;
-  }
+  devices_done = search (rules, done-nothing, devices-same)
 
   -- the core alone changed, whatever the devices represent
   pub core_done : (before : Bus T O E) (core new : Core) (action : Action) (byte : ℕ) → asks_tree action ≡ false
       → ((state : DeviceState) → DevicesRepresent before.devices.now state → act action byte state core ≡ no_effect state new)
       → HasActed meaning [] before core action byte before new
-  core_done before core new action byte none is = record {
-    does = rw none (λ state stood. rw (is state stood) (record { core = refl; devices = (stood, refl); makes = done-nothing (outside_on meaning before) }));
-    same = devices-same before before.devices refl refl refl refl;
-  }
+  core_done = search (rules, done-nothing, devices-same)
 
   -- a file device acted, or stopped
   state-files : (number : FileNumber) (outcome : FileOutcome) (state : DeviceState) (contents : Option Nodes)
       → HasFiles contents state.root (files_by state.part outcome.changes) state.parent
       → HasFiles contents (file_acted number outcome state).root (file_acted number outcome state).part (file_acted number outcome state).parent
-  state-files First outcome state contents has = has
-  state-files Second outcome state contents has = has
-
-  state-suits : (number : FileNumber) (devices : Devices) (state : DeviceState) → DevicesRepresent devices state → Suits state.root (file_in number state)
-  state-suits First devices state stands = stands.files.first_suits
-  state-suits Second devices state stands = stands.files.second_suits
+  state-files = search rules
 
   file-lies : (number : FileNumber) (part : FileAct) (devices : Devices) (state : DeviceState) (memory : List ℕ) → DevicesRepresent devices state
       → LieIn state.root (file_outcome number part state memory).changes
   file-lies number part devices state memory stands =
       act-lies (file_action part state.history (file_base number)) state.root state.part state.parent (file_in number state) memory
-      (state-suits number devices state stands)
+      (suits-file number devices state stands)
 
   -- what a tree made short is stopped early beside two sinks; one that did not fail made all
   stops-by : (changes : List Change) (stop : Stop) (cause : FileStop) (a b : TreeState) (out err : SinkState) → stop ≡ stop_of cause
@@ -261,18 +202,15 @@ module _ {T O E : Type 0} (meaning : BusModel T O E) where
   -- a byte stored takes a state to act from to the state with one more store
   stands-stored : (asks : Bool) (before middle : Bus T O E) (port byte : ℕ) → Stored before middle port byte → (state : DeviceState)
       → RepresentsTo meaning asks before state → RepresentsTo meaning asks middle (storing ((port, byte) ∷ []) state)
-  stands-stored true before middle port byte stored state stands = stored.devices.bus state stands
-  stands-stored false before middle port byte stored state stands = stored.devices.devices state stands
+  stands-stored = search rules
 
   comes-stored : (asks : Bool) (before middle now : Bus T O E) (port byte : ℕ) → Stored before middle port byte → (state : DeviceState)
       → ComesTo meaning asks middle now state → ComesTo meaning asks before now state
-  comes-stored true before middle now port byte stored state come = come
-  comes-stored false before middle now port byte stored state come = (come.0, come.1 ∙ stored.tree)
+  comes-stored = search rules
 
   keeps-stored : (asks : Bool) (before middle now : Bus T O E) (port byte : ℕ) (old new : Core) → Stored before middle port byte
       → KeepsBus meaning asks middle old now new → KeepsBus meaning asks before old now new
-  keeps-stored true before middle now port byte old new stored keeps = keeps
-  keeps-stored false before middle now port byte old new stored keeps = (keeps.0, keeps.1 ∙ stored.tree)
+  keeps-stored = search rules
 
   -- a write is a byte stored, and then an action
   pub wrote_by_act : (before middle now : Bus T O E) (old new : Core) (port byte : ℕ) (action : Action) (answer : Result (Unit {0}) Stop)

@@ -1,6 +1,6 @@
 -- Bytes that are appended to a file.
-use Rattle.std.proofs.Common.{◌≡◌, ℕ, Bool, true, false, cond, List, [], ◌∷◌, ◌++◌, map, refl, ap, sym, ◌∙◌}
-use Rattle.std.specs.Prelude.{Option, Some, None, IsSome, Result, Ok, Err, OnOk, OnErr, is_err, if◌then◌else◌}
+use Rattle.std.proofs.Common.{◌≡◌, ℕ, Bool, true, false, cond, List, [], ◌∷◌, ◌++◌, map, ap, rules, sym, ◌∙◌, refl}
+use Rattle.std.specs.Prelude.{Option, Some, None, IsSome, Result, Err, OnOk, OnErr, is_err, if◌then◌else◌}
 use Rattle.std.specs.Option.{option_map}
 use Rattle.std.specs.Ordering.{nat_cmp, eq_by_cmp}
 use Rattle.std.specs.Cmp.Lexicographic.{slice_cmp, nat_list_cmp_total}
@@ -14,7 +14,7 @@ use Rattle.uxn_io_traits.specs.Outside.{Change, ToFile, files_by}
 use Rattle.uxn_io_traits.specs.State.{TreeState, Outside}
 use Rattle.uxn_io_traits.specs.Ended.{TreeEnded, Ended, contents_after, appending, blame_of_tree}
 use Rattle.uxn_opcodes.specs.declared.Stop.{Stop}
-use Rattle.uxn_opcodes.specs.declared.Stop.TheVariants.{TreeFault, SinkFault, NoMemory}
+use Rattle.uxn_opcodes.specs.declared.Stop.TheVariants.{TreeFault}
 use Rattle.file_ports.specs.Device.{suits}
 use Rattle.file_ports.specs.RootPart.{below}
 use Rattle.file_ports.specs.PartLaws.{below-files_by, files_by-file}
@@ -28,8 +28,7 @@ use Rattle.varvara_bus.specs.Laws.{stand-part}
 
 -- what stands at a path once a file was put there, or elsewhere
 put-there : (b : Bool) (bytes : List ℕ) (before : Option Node) → IsSome (bytes_of before) → IsSome (bytes_of (cond b (Some (File bytes)) before))
-put-there true bytes before there = refl
-put-there false bytes before there = there
+put-there = search rules
 
 -- files stay where bytes are appended to one
 pub appended-stays : (root : Option (List ℕ)) (contents : Option Nodes) (path text : List ℕ) → FilesStay root contents (option_map (with_appended path text) contents)
@@ -62,12 +61,7 @@ append-stays root path piece true a b ended = rw ended.stands.contents (prefixes
 pub append-ended : (changes : List Change) (answer : Result (Unit {0}) Stop) (put : Result (Unit {0}) Failed) (before now : Outside)
     → is_err answer ≡ is_err put → OnErr answer (answer ≡ Err TreeFault) → Ended changes (blame_of_tree (is_err put)) before now
     → Ended changes (blame_for answer) before now
-append-ended changes (Ok done) (Ok put) before now same fault ended = ended
-append-ended changes (Ok done) (Err failed) before now same fault ended = cc
-append-ended changes (Err stop) (Ok put) before now same fault ended = cc
-append-ended changes (Err TreeFault) (Err failed) before now same fault ended = ended
-append-ended changes (Err SinkFault) (Err failed) before now same fault ended = cc
-append-ended changes (Err NoMemory) (Err failed) before now same fault ended = cc
+append-ended = search rules
 
 -- to a file of the root part they are appended there too, and else the root part stays
 part-appended : (contents now : Option Nodes) (path text : List ℕ) (inside : Bool) (root : Option (List ℕ)) (part : Nodes) (parent : Bool)
@@ -89,8 +83,7 @@ module _ {T O E : Type 0} (contents_of_tree : T → Option Nodes) where
   after-append : (now : Bus T O E) (inside : Bool) (state : DeviceState) (part : Nodes) → DevicesRepresent now.devices.now state
       → HasFiles (contents_of_tree now.tree.now) state.root (if inside then part else state.part) state.parent
       → BusRepresents contents_of_tree now (if inside then record state { part = part } else state)
-  after-append now true state part stands has = record { devices = stand-part now.devices.now state part stands; files = has }
-  after-append now false state part stands has = record { devices = stands; files = has }
+  after-append = search (rules, stand-part)
 
   bus-appended : (before now : Bus T O E) (path text : List ℕ) → now.devices.now ≡ before.devices.now
       → contents_of_tree now.tree.now ≡ option_map (with_appended path text) (contents_of_tree before.tree.now) → IsFileWhereKnown (contents_of_tree before.tree.now) path
@@ -103,7 +96,4 @@ module _ {T O E : Type 0} (contents_of_tree : T → Option Nodes) where
       → is_err answer ≡ is_err put → now.devices.now ≡ before.devices.now → a.contents ≡ contents_of_tree before.tree.now → b.contents ≡ contents_of_tree now.tree.now
       → TreeEnded (appending path text) (is_err put) a b → IsFileWhereKnown (contents_of_tree before.tree.now) path
       → OnOk answer ((state : DeviceState) → BusRepresents contents_of_tree before state → BusRepresents contents_of_tree now (piece_appended path text state))
-  append-stands before now path text (Ok done) (Ok put) a b fails same was is ended there =
-      bus-appended before now path text same (sym is ∙ ended.stands ∙ contents_after-file a.contents path text ∙ ap (option_map (with_appended path text)) was) there
-  append-stands before now path text (Ok done) (Err failed) a b fails same was is ended there = cc
-  append-stands before now path text (Err stop) put a b fails same was is ended there = tt
+  append-stands = search (rules, bus-appended, contents_after-file)

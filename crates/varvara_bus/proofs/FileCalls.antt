@@ -1,5 +1,5 @@
 -- What a call of a file device does, by the files of a state and by the ports of the device.
-use Rattle.std.proofs.Common.{◌≡◌, ℕ, ◌+◌, Bool, true, false, List, [], refl, ap, sym, subst, ◌∙◌}
+use Rattle.std.proofs.Common.{◌≡◌, ℕ, ◌+◌, Bool, true, false, List, [], refl, ap, rules, sym, subst, ◌∙◌}
 use Rattle.std.specs.Prelude.{Option, Some, None, Result, Ok, Err, is_none, if◌then◌else◌}
 use Rattle.std.specs.Option.{option_map}
 use Rattle.uxn_io_traits.specs.Files.{Nodes}
@@ -11,7 +11,7 @@ use Rattle.file_ports.specs.declared.stop.FileStop.{FileStop}
 use Rattle.file_ports.specs.Device.{FileState, idle_at, Suits}
 use Rattle.file_ports.specs.Names.{path_named}
 use Rattle.file_ports.specs.RootPart.{IsIn, LieIn}
-use Rattle.file_ports.specs.Actions.{FileAction, Name, Read, Write, Stat, Delete, FileOutcome, Observed, observed_file, acts, act, reads, stats, count_from}
+use Rattle.file_ports.specs.Actions.{FileAction, Name, Read, Stat, FileOutcome, Observed, observed_file, acts, act}
 use Rattle.file_ports.specs.AnswersAction.{AnswersAction, FileStopped, MemoryLeft, outcome_by, changes_unknown, changes_by, device_left, ActedOrStopped, MayWant, DeviceTakesNames}
 use Rattle.file_ports.specs.PartLaws.{below-files_by, outcome-same}
 use Rattle.uxn_io_traits.specs.EachLaws.{each-parts}
@@ -21,11 +21,9 @@ use Rattle.file_ports.specs.OutsideLaws.{still-there}
 use Rattle.input_ports.specs.Page.{short_stores}
 use Rattle.varvara_bus.specs.declared.devices.Devices.{Devices}
 use Rattle.varvara_bus.specs.declared.files.Request.{Request}
-use Rattle.varvara_bus.specs.declared.files.Request.TheVariants as requested
 use Rattle.varvara_bus.specs.declared.ports.FileAct.{FileAct}
 use Rattle.varvara_bus.specs.declared.ports.FileAct.TheVariants as acts_on
 use Rattle.varvara_bus.specs.declared.ports.FileNumber.{FileNumber}
-use Rattle.varvara_bus.specs.declared.ports.FileNumber.TheVariants.{First, Second}
 use Rattle.varvara_bus.specs.State.{DeviceState, DevicesRepresent, HasFiles, storing}
 use Rattle.varvara_bus.specs.FileActs.{PortLeft, file_base, file_in, with_file, file_action, file_outcome}
 use Rattle.varvara_bus.specs.Bus.{FilesStay, file_held}
@@ -52,9 +50,7 @@ pub performs : (action : FileAction) (root : Option (List ℕ)) (device : FileSt
     → ((observed : Option Observed) → acts action None device memory observed ≡ acts action root device memory observed)
     → Suits root device → ActedOrStopped action device memory contents result device_now memory_now
     → Performed action root device memory contents result device_now memory_now
-performs action root device memory contents (Ok value) device_now memory_now same fits acted = λ part parent has.
-    rw (outcome-known action root part parent device memory contents same fits has) at acted.answers
-performs action root device memory contents (Err stop) device_now memory_now same fits stopped = stopped
+performs = search (rules, outcome-known)
 
 -- a device goes on to suit its root
 pub goes-on : (action : FileAction) (root : Option (List ℕ)) (device : FileState) (memory : List ℕ) (contents : Option Nodes) (result : Result ℕ FileStop)
@@ -71,11 +67,7 @@ names at root device device_now memory contents is = λ part parent has. record 
 -- without a path nothing is changed
 nowhere-none : (action : FileAction) (root : Option (List ℕ)) (device : FileState) (memory : List ℕ)
     → changes_unknown action None ≡ (acts action root device memory None).changes
-nowhere-none (Name at) root device memory = refl
-nowhere-none (Read at length) root device memory = refl
-nowhere-none (Write at length keep) root device memory = refl
-nowhere-none (Stat at length) root device memory = refl
-nowhere-none Delete root device memory = refl
+nowhere-none = search rules
 
 -- changes by what is observed of a tree are those by the files of a state
 pub changes-known : (action : FileAction) (root : Option (List ℕ)) (part : Nodes) (parent : Bool) (device : FileState) (memory : List ℕ) (contents : Option Nodes)
@@ -93,19 +85,12 @@ changes-known action root part parent device memory (Some nodes) fits has =
 -- the root part after changes in it
 pub files-now : (changes : List Change) (root : Option (List ℕ)) (part : Nodes) (parent : Bool) (before now : Option Nodes)
     → HasFiles before root part parent → LieIn root changes → now ≡ contents_after changes before → HasFiles now root (files_by part changes) parent
-files-now changes root part parent None now has lie is =
-    let none : changes ≡ [] = lie-none changes (rw has.0 at lie) in
-    rw is (rw (contents_after-none changes) (rw none has))
-files-now changes root part parent (Some nodes) now has lie is =
-    rw is (rw (contents_after-some nodes changes)
-    (rw has.0 (sym (below-files_by root changes nodes lie)), has.1 ∙ sym (parent-kept root changes nodes lie)))
+files-now = search (rules, below-files_by, contents_after-none, contents_after-some, lie-none, parent-kept)
 
 -- each file outside it is there still
 stays-by : (root : Option (List ℕ)) (changes : List Change) (before now : Option Nodes) → LieIn root changes → now ≡ contents_after changes before
     → FilesStay root before now
-stays-by root changes None now lie is = rw is (rw (contents_after-none changes) (record { stays = λ path outside there. tt }))
-stays-by root changes (Some nodes) now lie is =
-    rw is (rw (contents_after-some nodes changes) (record { stays = λ path outside there. still-there root path changes nodes lie outside there }))
+stays-by = search (rules, contents_after-none, contents_after-some, still-there)
 
 stays-after : (root : Option (List ℕ)) (changes : List Change) (failed : Bool) (a b : TreeState) → LieIn root changes → TreeEnded changes failed a b
     → FilesStay root a.contents b.contents
@@ -120,8 +105,7 @@ stays-after root changes failed a b lie ended = by failed ended.stands
 -- ---- the devices of a machine
 
 held-suits : (number : FileNumber) (devices : Devices) → Suits devices.root (file_held number devices)
-held-suits First devices = devices.first_suits
-held-suits Second devices = devices.second_suits
+held-suits = search rules
 
 pub files-stay : (action : FileAction) (number : FileNumber) (devices : Devices) (memory : List ℕ) (failed : Bool) (a b : TreeState)
     → TreeEnded (changes_by action a.contents (file_held number devices) memory) failed a b → FilesStay devices.root a.contents b.contents
@@ -131,8 +115,7 @@ files-stay action number devices memory failed a b =
 -- devices represent a state whatever its part of the tree
 with_part : (number : FileNumber) (devices : Devices) (device : FileState) (state : DeviceState) (part : Nodes)
     → DevicesRepresent devices (with_file number device state) → DevicesRepresent devices (with_file number device (record state { part = part }))
-with_part First devices device state part stands = stand-part devices (with_file First device state) part stands
-with_part Second devices device state part stands = stand-part devices (with_file Second device state) part stands
+with_part = search (rules, stand-part)
 
 abbrev value_of : Result ℕ FileStop → ℕ
 value_of (Ok value) = value
@@ -176,20 +159,10 @@ file-acted request number part devices middle after state memory contents succes
 
 -- reads and stats change nothing
 pub stat-changes : (at length : ℕ) (contents : Option Nodes) (device : FileState) (memory : List ℕ) → [] ≡ changes_by (Stat at length) contents device memory
-stat-changes at length None device memory = refl
-stat-changes at length (Some nodes) device memory = by device.path
-  where
-    by : (path : Option (List ℕ)) → [] ≡ (stats at (count_from at length) device memory (option_map (observed_file nodes) path)).changes
-    by None = refl
-    by (Some path) = refl
+stat-changes = search rules
 
 pub read-changes : (at length : ℕ) (contents : Option Nodes) (device : FileState) (memory : List ℕ) → [] ≡ changes_by (Read at length) contents device memory
-read-changes at length None device memory = refl
-read-changes at length (Some nodes) device memory = by device.path
-  where
-    by : (path : Option (List ℕ)) → [] ≡ (reads at (count_from at length) device memory (option_map (observed_file nodes) path)).changes
-    by None = refl
-    by (Some path) = refl
+read-changes = search rules
 
 -- a stop of a file device leaves its port so
 pub file-left : (request : Request) (number : FileNumber) (act : FileAct) (devices held : Devices) (state : DeviceState) (memory memory_now : List ℕ)
@@ -211,8 +184,4 @@ file-left request number act devices held state memory memory_now contents stop 
 -- memory runs out to a read alone
 pub wants-read : (request : Request) (device : FileState) (contents : Option Nodes) → MayWant (action_requested request) device contents
     → (act_requested request ≡ acts_on.Read) × DeviceTakesNames device contents
-wants-read (requested.Stat at length) device contents wants = absurd wants
-wants-read requested.Delete device contents wants = absurd wants
-wants-read (requested.Name at) device contents wants = absurd wants
-wants-read (requested.Read at length) device contents wants = (refl, wants)
-wants-read (requested.Write at length keep) device contents wants = absurd wants
+wants-read = search rules

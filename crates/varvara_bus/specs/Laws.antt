@@ -1,5 +1,5 @@
 -- What one more store changes: the port that it goes to, and no other; and what new devices hold.
-use Rattle.std.specs.Prelude.{◌≡◌, ℕ, ◌<◌, ◌==◌, false, List, [], ◌∷◌, map, Some}
+use Rattle.std.specs.Prelude.{◌≡◌, ℕ, ◌<◌, ◌==◌, List, [], ◌∷◌}
 use Rattle.std.specs.Prelude.{length, replicate, slice_index, slice_set, refl, if◌then◌else◌}
 use Rattle.std.proofs.Common.{ap, sym, ◌∙◌, arith, rules, inl, inr, lit<}
 use Rattle.std.proofs.lemmas.Bool.{cases_lt}
@@ -10,15 +10,14 @@ use Rattle.input_ports.specs.declared.Input.{Input}
 use Rattle.input_ports.specs.declared.Input.TheVariants.{Key, Down, Up, Mouse, Press, Release, Scroll, DownOf, UpOf}
 use Rattle.input_ports.specs.Page.{buttons_port, bits_set, bits_cleared, with_bits, without_bits, stores_of, stores_after, with_stores}
 use Rattle.uxn_io_traits.specs.Files.{Nodes}
-use Rattle.uxn_io_traits.specs.Outside.{ToFile, files_by}
 use Rattle.varvara_bus.specs.Bus.{file_held}
-use Rattle.file_ports.specs.Device.{suits, Suits}
+use Rattle.file_ports.specs.Device.{Suits}
 use Rattle.varvara_bus.specs.declared.devices.Devices.{Devices}
 use Rattle.varvara_bus.specs.History.{Store, at_first, stored}
 use Rattle.varvara_bus.specs.State.{DeviceState, storing, DevicesRepresent}
 use Rattle.varvara_bus.specs.declared.ports.FileNumber.{FileNumber}
 use Rattle.varvara_bus.specs.declared.ports.FileNumber.TheVariants.{First as FirstFile, Second as SecondFile}
-use Rattle.varvara_bus.specs.FileActs.{file_in, piece_appended}
+use Rattle.varvara_bus.specs.FileActs.{file_in}
 
 -- a byte set at a place is found there, and all else as before
 pub found : (page : List ℕ) (place byte port : ℕ) → place < length page
@@ -53,12 +52,6 @@ pub suits-file : (number : FileNumber) (devices : Devices) (state : DeviceState)
     → Suits state.root (file_in number state)
 suits-file FirstFile devices state stands = stands.files.first_suits
 suits-file SecondFile devices state stands = stands.files.second_suits
-
--- bytes added to a file outside the root part leave a state as it is
-pub appended-outside : (path bytes : List ℕ) (state : DeviceState) → suits state.root (Some path) ≡ false
-    → piece_appended path bytes state ≡ state
-appended-outside path bytes state outside =
-    ap (λ inside. if inside then record state { part = files_by state.part (map (λ byte. ToFile path byte) bytes) } else state) outside
 
 -- every store goes to a port
 abbrev pub AreAtPorts : List Store → Type 0
