@@ -36,7 +36,7 @@ abbrev pub session_debugging : Session → Debugging
 session_debugging session = debugging session.task session.commands.items session.labels.items
 
 abbrev pub prepared_debugging : Prepared → Option Debugging
-prepared_debugging prepared = option_map (λ session. session_debugging session.value) prepared.session
+prepared_debugging prepared = option_map session_debugging prepared.session
 
 -- of a ROM, which its machine has loaded
 abbrev pub prepared_job : RunTask → List ℕ → Prepared → RunJob
@@ -50,7 +50,7 @@ prepared_plan run rom prepared = planned (Run (prepared_job run rom prepared)) p
 pub record IsReadyRun (run : RunTask) (debug : Option DebugTask) (rom : List ℕ) (prepared : Prepared) : Type 0 where
   pub core : prepared.machine.value.core ≡ new_core rom
   pub devices : AreNew prepared.machine.value.devices prepared.machine.value.script run.root
-  pub undo : IfSome prepared.session (λ session. session.value.undo ≡ [])
+  pub undo : IfSome prepared.session (λ session. session.undo ≡ [])
   pub outputs : paths_of prepared.outputs.items ≡ run_outputs run debug
 
 -- a run that is prepared: its inputs were accepted, it is ready, and its outputs were made

@@ -36,16 +36,16 @@ pub fn run_session<T: Tree, O: Sink, E: Sink>(
     alloc: Global,
     run: &RunTask,
     machine: &mut Machine,
-    session: Box<Session>,
+    session: Session,
     host: &mut Host<'_, '_, '_, T, O, E>,
 ) -> Result<RunEnd, Stop>
     requires devices { AreNew machine.old.devices machine.old.script run.now.root }
-    requires undo { session.value.undo ≡ [] }
+    requires undo { session.undo ≡ [] }
     requires budget { 1 ≤ run.now.budget }
     requires files { RunFiles run.now (T.state host.old.tree.now).contents }
-    requires log { IsOutput run.now.root (T.state host.old.tree.now).contents session.value.task.log }
+    requires log { IsOutput run.now.root (T.state host.old.tree.now).contents session.task.log }
     ensures runs { RunsFromRoot run.now.root (task_trace run.now machine.old)
-        (logged_changes run.now machine.old (Some (session_debugging session.value))) (IsSome (Some session))
+        (logged_changes run.now machine.old (Some (session_debugging session))) (IsSome (Some session))
         (outside_of T.Tree O.Sink E.Sink host.old) (outside_of T.Tree O.Sink E.Sink host.new) result }
     ensures refusals { run.now.root ≡ None → RefusesNone (T.state host.old.tree.now) (T.state host.new.tree.now) }
     ensures same { SameHost host.old host.new }
@@ -57,7 +57,7 @@ pub fn run_session<T: Tree, O: Sink, E: Sink>(
         commands,
         labels,
         undo,
-    } = Box::into_inner(session);
+    } = session;
     let mut debugger = Debugger::new(alloc, commands, &labels, undo);
     let end = run_made(run, machine, host, &mut debugger)?;
     write_text(&Some(task.log), debugger.log(), host.tree)

@@ -34,7 +34,7 @@ pub struct Prepared {
     /// The machine.
     pub machine: Box<Machine>,
     /// The session of a debugger.
-    pub session: Option<Box<Session>>,
+    pub session: Option<Session>,
     /// The files that its source includes.
     pub included: Vec<Path>,
     /// The files that it writes, which have no bytes yet.
@@ -47,23 +47,21 @@ fn open_session(
     debug: &Option<DebugTask>,
     commands: Vec<DebugCommand>,
     labels: Vec<Label>,
-) -> Result<Option<Box<Session>>, AllocError>
-    ensures debugger { IfOk result (λ opened. option_map (λ session. session_debugging session.value) opened
+) -> Result<Option<Session>, AllocError>
+    ensures debugger { IfOk result (λ opened. option_map session_debugging opened
         ≡ option_map (λ task. debugging task commands.items labels.items) debug.now) }
-    ensures undo { IfOk result (λ opened. IfSome opened (λ session. session.value.undo ≡ [])) }
+    ensures undo { IfOk result (λ opened. IfSome opened (λ session. session.undo ≡ [])) }
 {
     let Some(task) = debug else {
         return Ok(None);
     };
     let undo = Undo::new(alloc)?;
-    let session = Session {
+    Ok(Some(Session {
         task: *task,
         commands,
         labels,
         undo,
-    };
-    let boxed = Box::new(alloc, session)?;
-    Ok(Some(boxed))
+    }))
 }
 
 /// The files that a run writes, which have no bytes yet.
@@ -100,8 +98,8 @@ fn ready(
         commands,
     } = inputs;
     let machine = new_machine(alloc, run.root, rom.as_slice(), script)?;
-    let session = open_session(alloc, debug, commands, labels)?;
     let outputs = new_outputs(alloc, run, debug)?;
+    let session = open_session(alloc, debug, commands, labels)?;
     Ok(Prepared {
         machine,
         session,
@@ -135,7 +133,7 @@ fn run_prepared<T: Tree, O: Sink, E: Sink>(
     host: &mut Host<'_, '_, '_, T, O, E>,
 ) -> Result<RunEnd, Stop>
     requires devices { AreNew prepared.machine.value.devices prepared.machine.value.script run.now.root }
-    requires undo { IfSome prepared.session (λ session. session.value.undo ≡ []) }
+    requires undo { IfSome prepared.session (λ session. session.undo ≡ []) }
     requires budget { 1 ≤ run.now.budget }
     requires files { RunFiles run.now (T.state host.old.tree.now).contents }
     requires log { IfSome (prepared_debugging prepared) (λ debug. IsOutput run.now.root (T.state host.old.tree.now).contents debug.task.log) }
@@ -170,9 +168,11 @@ pub fn play<T: Tree, O: Sink, E: Sink>(
         (state_of_host T.Tree O.Sink E.Sink host.old) (state_of_host T.Tree O.Sink E.Sink host.new) result }
     ensures same { SameHost host.old host.new }
 {
-    let prepared = prepare(alloc, run, debug, host.tree)?;
-    match run_prepared(alloc, run, prepared, host) {
-        Ok(end) => Ok(end.exit),
-        Err(stop) => Err(Halt::Stopped(stop)),
+    match prepare(alloc, run, debug, host.tree) {
+        Ok(prepared) => match run_prepared(alloc, run, prepared, host) {
+            Ok(end) => Ok(end.exit),
+            Err(stop) => Err(Halt::Stopped(stop)),
+        },
+        Err(halt) => Err(halt),
     }
 }

@@ -5,7 +5,7 @@ ghost use Rattle.uxn_arguments.specs.Places.{HasApartOutputs};
 ghost use Rattle.uxn_arguments.specs.declared.task.Task.TheVariants as tasks;
 ghost use Rattle.uxn_arguments.specs.declared.task.Task.{Task};
 ghost use Rattle.uxn_inquiry.specs.Inquires.{Inquires};
-ghost use Rattle.uxn_io_traits.specs.State.{TreeState};
+ghost use Rattle.uxn_io_traits.specs.State.{SinkState, TreeState};
 ghost use Rattle.uxn_cli.specs.Outside.{DoesWork, SameHost, host_state, state_of_host};
 ghost use Rattle.uxn_cli.specs.Prepared.{printed_plan};
 ghost use Rattle.uxn_cli.specs.Verdict.{plan_of};
@@ -24,50 +24,43 @@ use uxn_task_files::{
 };
 
 /// Writes the files of a source.
-fn write<T: Tree, O: Sink, E: Sink>(
-    alloc: Global,
-    task: &AssembleTask,
-    host: &mut Host<'_, '_, '_, T, O, E>,
-) -> Result<u8, Halt>
-    requires apart { HasApartOutputs (tasks.Assemble task.now) }
-    ensures does { DoesWork (Ok (tasks.Assemble task.now))
-        (state_of_host T.Tree O.Sink E.Sink host.old) (state_of_host T.Tree O.Sink E.Sink host.new) result }
-    ensures same { SameHost host.old host.new }
+fn write<T: Tree>(alloc: Global, task: &AssembleTask, tree: &mut T) -> Result<u8, Halt>
+    requires { HasApartOutputs (tasks.Assemble task.now) }
+    ensures { (out err : SinkState) → DoesWork (Ok (tasks.Assemble task.now))
+        (host_state (T.state tree.old) out err) (host_state (T.state tree.new) out err) result }
 {
-    let written = assemble(alloc, task, host.tree)?;
-    write_outputs(&written, host.tree).and(Ok(0))
+    let written = assemble(alloc, task, tree)?;
+    write_outputs(&written, tree).and(Ok(0))
 }
 
 /// Prints the text of a task, or hands on why there is none.
-fn print_text<T: Tree, O: Sink, E: Sink>(
+fn print_text<O: Sink>(
     said: Result<Vec<u8>, InquiryHalt<Refusal>>,
-    host: &mut Host<'_, '_, '_, T, O, E>,
+    out: &mut O,
 ) -> Result<u8, Halt>
-    ensures does { (task : Task) (start : TreeState) → Inquires printed_plan (plan_of task) start (T.state host.old.tree.now) said
-        → DoesWork (Ok task) (host_state start (O.state host.old.out.now) (E.state host.old.err.now))
-        (state_of_host T.Tree O.Sink E.Sink host.new) result }
-    ensures same { SameHost host.old host.new }
+    ensures { (task : Task) (start now : TreeState) (err : SinkState) → Inquires printed_plan (plan_of task) start now said
+        → DoesWork (Ok task) (host_state start (O.state out.old) err) (host_state now (O.state out.new) err) result }
 {
     let text = said?;
-    print(&text, host.out)
+    print(&text, out)
 }
 
 /// Runs the machines of a setup in a line, where their script has events of the console alone.
 #[inline(never)]
-fn join<T: Tree, O: Sink, E: Sink>(
+fn join<T: Tree, O: Sink>(
     alloc: Global,
     path: &Path,
-    host: &mut Host<'_, '_, '_, T, O, E>,
+    tree: &mut T,
+    out: &mut O,
 ) -> Result<u8, Halt>
-    ensures does { DoesWork (Ok (tasks.Line path.now))
-        (state_of_host T.Tree O.Sink E.Sink host.old) (state_of_host T.Tree O.Sink E.Sink host.new) result }
-    ensures same { SameHost host.old host.new }
+    ensures { (err : SinkState) → DoesWork (Ok (tasks.Line path.now))
+        (host_state (T.state tree.old) (O.state out.old) err) (host_state (T.state tree.new) (O.state out.new) err) result }
 {
-    let inputs = read_machines(alloc, path, host.tree)?;
+    let inputs = read_machines(alloc, path, tree)?;
     if !are_of_console(inputs.script.events()) {
         return Err(Halt::Refused(Refusal::OtherEvents));
     }
-    run_line(alloc, &inputs, host.out)
+    run_line(alloc, &inputs, out)
 }
 
 /// Does the work of a task.
@@ -83,9 +76,9 @@ pub fn carry_out<T: Tree, O: Sink, E: Sink>(
 {
     match task {
         Task::Run(run, debug) => play(alloc, run, debug, host),
-        Task::Assemble(task) => write(alloc, task, host),
-        Task::Disassemble(task) => print_text(disassemble_rom(alloc, task, host.tree), host),
-        Task::Generate(count) => print_text(summarize(alloc, *count), host),
-        Task::Line(path) => join(alloc, path, host),
+        Task::Assemble(task) => write(alloc, task, host.tree),
+        Task::Disassemble(task) => print_text(disassemble_rom(alloc, task, host.tree), host.out),
+        Task::Generate(count) => print_text(summarize(alloc, *count), host.out),
+        Task::Line(path) => join(alloc, path, host.tree, host.out),
     }
 }

@@ -8,10 +8,10 @@ use Rattle.uxn_cli.proofs.work.write.Goals as goal
 abbrev plan_of_written : Written → Plan
 plan_of_written written = planned (Write (observed_texts written.outputs.items)) written.included.items
 
-pub returns-in_err-written-clause-does : goal.returns-in_err-written-clause-does
-returns-in_err-written-clause-does g c =
+pub returns-in_err-written : goal.returns-in_err-written
+returns-in_err-written g c =
     let result : c.from_residual.result ≡ Err (halt_of_inquiry c.in_err-written.field-0.0) = search rules in
-    rw result (halted-unready plan_of_written (tasks.Assemble c.args.task.now) _ _ _ _ c.in_err-written.field-0.0
+    rw result (λ out err. halted-unready plan_of_written (tasks.Assemble c.args.task.now) _ _ out err c.in_err-written.field-0.0
     (inquires-stop _ _ _ _ _ _ _ c.in_err-written.ensures))
 
 pub write_outputs-requires : goal.write_outputs-requires
@@ -19,10 +19,10 @@ write_outputs-requires g c =
     let task = tasks.Assemble c.args.task.now in
     let written = c.in_ok-written.written in
     let accepted = accepted-after plan_of_written task _ _ written (inquires-last _ _ _ _ _ _ _ _ c.in_ok-written.ensures refl) in
-    record { task = task; apart = c.requires.apart; outputs = sym (plan-outputs _ task _ accepted ∙ observed_paths written.outputs.items) }
+    record { task = task; apart = c.requires; outputs = sym (plan-outputs _ task _ accepted ∙ observed_paths written.outputs.items) }
 
-pub returns-clause-does : goal.returns-clause-does
-returns-clause-does g c =
+pub returns : goal.returns
+returns g c =
     let task = tasks.Assemble c.args.task.now in
     let written = c.in_ok-written.written in
     let asks = inquires-last _ plan_of_written _ _ _ _ written (Ok written) c.in_ok-written.ensures refl in
@@ -30,5 +30,5 @@ returns-clause-does g c =
     let wrote = subst (λ paths. WritesOutputs written.included.items paths (observed_texts written.outputs.items) (g.T.Tree.state c.assemble.new.tree)
     (g.T.Tree.state c.write_outputs.new.tree) c.write_outputs.result)
     (sym (plan-outputs _ task _ accepted ∙ observed_paths written.outputs.items)) c.write_outputs.ensures in
-    rw c.and.ensures (does-behind _ task _ _ _ _ _ _ written asks
-    (does-write task _ _ _ _ (observed_texts written.outputs.items) written.included.items accepted c.write_outputs.result wrote))
+    rw c.and.ensures (λ out err. does-behind _ task _ _ out err _ _ written asks
+    (does-write task _ _ out err (observed_texts written.outputs.items) written.included.items accepted c.write_outputs.result wrote))
