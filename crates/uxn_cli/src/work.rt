@@ -34,10 +34,7 @@ fn write<T: Tree>(alloc: Global, task: &AssembleTask, tree: &mut T) -> Result<u8
 }
 
 /// Prints the text of a task, or hands on why there is none.
-fn print_text<O: Sink>(
-    said: Result<Vec<u8>, InquiryHalt<Refusal>>,
-    out: &mut O,
-) -> Result<u8, Halt>
+fn print_text<O: Sink>(said: Result<Vec<u8>, InquiryHalt<Refusal>>, out: &mut O) -> Result<u8, Halt>
     ensures { (task : Task) (start now : TreeState) (err : SinkState) → Inquires printed_plan (plan_of task) start now said
         → DoesWork (Ok task) (host_state start (O.state out.old) err) (host_state now (O.state out.new) err) result }
 {
@@ -47,12 +44,7 @@ fn print_text<O: Sink>(
 
 /// Runs the machines of a setup in a line, where their script has events of the console alone.
 #[inline(never)]
-fn join<T: Tree, O: Sink>(
-    alloc: Global,
-    path: &Path,
-    tree: &mut T,
-    out: &mut O,
-) -> Result<u8, Halt>
+fn join<T: Tree, O: Sink>(alloc: Global, path: &Path, tree: &mut T, out: &mut O) -> Result<u8, Halt>
     ensures { (err : SinkState) → DoesWork (Ok (tasks.Line path.now))
         (host_state (T.state tree.old) (O.state out.old) err) (host_state (T.state tree.new) (O.state out.new) err) result }
 {
