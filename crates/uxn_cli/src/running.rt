@@ -8,7 +8,7 @@ ghost use Rattle.uxn_task_files.specs.World.{requested_output};
 ghost use Rattle.uxn_task_files.specs.Writing.{filling_all};
 ghost use Rattle.uxn_cli.specs.Prepared.{AreNew};
 ghost use Rattle.uxn_io_traits.specs.Ended.{RefusesNone, TreeEnded};
-ghost use Rattle.uxn_cli.specs.RunsFromRoot.{AtRootView, RunsFromRoot, RunFiles, WasShown, task_settings};
+ghost use Rattle.uxn_cli.specs.RunsFromRoot.{AtRootView, RunsFromRoot, RunFiles, WasShown};
 ghost use Rattle.uxn_cli.specs.RunsFromRoot.{machine_trace, task_trace, reported_changes};
 
 use super::host::Host;
@@ -86,19 +86,6 @@ pub fn write_text<T: Tree>(path: &Option<Path>, text: &[u8], tree: &mut T) -> Re
     }
 }
 
-/// How a task's machine is run.
-fn settings_of(task: &RunTask) -> Settings
-    ensures { result ≡ task_settings task.now }
-{
-    Settings {
-        outputs: Outputs {
-            frames: task.frames,
-            samples: task.samples,
-        },
-        budget: task.budget,
-    }
-}
-
 /// Runs a machine that is ready, and writes the report.
 pub fn run_made<T: Tree, O: Sink, E: Sink, W: Watcher>(
     task: &RunTask,
@@ -118,7 +105,14 @@ pub fn run_made<T: Tree, O: Sink, E: Sink, W: Watcher>(
     ensures same { SameHost host.old host.new }
 {
     let version = machine.script.version_kind();
-    let end = run_machine(machine, &settings_of(task), host, watcher)?;
+    let settings = Settings {
+        outputs: Outputs {
+            frames: task.frames,
+            samples: task.samples,
+        },
+        budget: task.budget,
+    };
+    let end = run_machine(machine, &settings, host, watcher)?;
     let text = report(version, end.exit, &end.tally);
     write_text(&task.report, &text, host.tree)
         .and(Ok(end))

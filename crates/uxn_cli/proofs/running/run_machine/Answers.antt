@@ -18,27 +18,24 @@ end-of exit tally last code counted = rw (code, counted) refl
 pub returns-clause-runs : goal.returns-clause-runs
 unfolding reference_trace
 returns-clause-runs g c =
-    let devices = c.new-bus.ensures.devices_now in
-    let ledger = c.in_ok-tally.ensures.ledger in
-    let stay = c.in_ok-tally.ensures.files in
+    let bus = c.new-bus.ensures in
     record {
       from = λ root_view root files.
           let machine = c.args.machine.now in
-          let stands = at-start (contents_on g.T.Tree) c.new-bus.result _ _ machine.script root_view devices c.new-bus.ensures.tree_now root
+          let stands = at-start (contents_on g.T.Tree) c.new-bus.result _ _ machine.script root_view bus.devices_now bus.tree_now root
           c.requires.devices files in
           let ends = c.in_ok-tally.ensures.ok.from (first_devices machine.script root_view) stands in
-          let made = ends.follows.makes in
           record {
-            made = search (rules, made);
+            made = rw (bus.tree_now, bus.out_now, bus.err_now) at ends.follows.makes;
             ends = end-of c.exit_code.result c.in_ok-tally.tally (machine_trace c.args.settings.now machine root_view).last
                 (c.exit_code.ensures
                 ∙ ap exit_code_of (c.stored.ensures.stored (machine_trace c.args.settings.now machine root_view).last.devices
                 ends.follows.devices.devices)) ends.follows.tally;
             names = tt;
           };
-      ledger = search (rules, ledger);
+      ledger = rw (bus.tree_now, bus.out_now, bus.err_now) at c.in_ok-tally.ensures.ledger;
       memory = tt;
-      files = search (rules, stay);
+      files = rw (bus.devices_now, bus.tree_now) at c.in_ok-tally.ensures.files;
       code = rw c.exit_code.ensures (omega arith);
     }
 
@@ -55,30 +52,27 @@ pub returns-in_err-tally-clause-runs : goal.returns-in_err-tally-clause-runs
 unfolding reference_trace
 returns-in_err-tally-clause-runs g c =
     let result : c.from_residual.result ≡ Err c.in_err-tally.field-0.0 = search rules in
-    let devices = c.new-bus.ensures.devices_now in
-    let ledger = c.in_err-tally.ensures.ledger in
-    let memory = c.in_err-tally.ensures.memory in
+    let bus = c.new-bus.ensures in
     rw result (record {
       from = λ root_view root files.
           let machine = c.args.machine.now in
-          let stands = at-start (contents_on g.T.Tree) c.new-bus.result _ _ machine.script root_view devices c.new-bus.ensures.tree_now root
+          let stands = at-start (contents_on g.T.Tree) c.new-bus.result _ _ machine.script root_view bus.devices_now bus.tree_now root
           c.requires.devices files in
           let short = c.in_err-tally.ensures.err.from (first_devices machine.script root_view) stands in
-          let made = short.made in
           record {
-            made = search (rules, made);
+            made = rw (bus.tree_now, bus.out_now, bus.err_now) at short.made;
             ends = tt;
             names = short.names;
           };
-      ledger = search (rules, ledger);
-      memory = search (rules, memory);
+      ledger = rw (bus.tree_now, bus.out_now, bus.err_now) at c.in_err-tally.ensures.ledger;
+      memory = rw bus.devices_now at c.in_err-tally.ensures.memory;
       files = tt;
       code = tt;
     })
 
 -- without a root no file was refused
 pub returns-clause-refusals : goal.returns-clause-refusals
-returns-clause-refusals g c = search (rules, c.in_ok-tally.ensures.refusals)
+returns-clause-refusals g c = rw (c.new-bus.ensures.devices_now, c.new-bus.ensures.tree_now) at c.in_ok-tally.ensures.refusals
 
 pub returns-in_err-tally-clause-refusals : goal.returns-in_err-tally-clause-refusals
-returns-in_err-tally-clause-refusals g c = search (rules, c.in_err-tally.ensures.refusals)
+returns-in_err-tally-clause-refusals g c = rw (c.new-bus.ensures.devices_now, c.new-bus.ensures.tree_now) at c.in_err-tally.ensures.refusals

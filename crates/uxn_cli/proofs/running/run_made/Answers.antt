@@ -9,14 +9,14 @@ run_machine-requires-clause-devices g c =
 
 pub run_machine-requires-clause-outputs : goal.run_machine-requires-clause-outputs
 run_machine-requires-clause-outputs g c =
-    rw (c.settings_of.ensures, (c.requires.devices fin.empty false).root)
+    rw (c.requires.devices fin.empty false).root
     (record { frames = c.requires.files.frames; samples = c.requires.files.samples })
 
 pub returns-in_err-end-clause-runs : goal.returns-in_err-end-clause-runs
 returns-in_err-end-clause-runs g c =
     let result : c.from_residual.result ≡ Err c.in_err-end.field-0.0 = search rules in
     let held = (c.requires.devices fin.empty false).root in
-    rw result (runs-first _ _ _ _ _ _ _ _ (runs-at _ _ _ _ _ _ _ _ held (rw c.settings_of.ensures at c.in_err-end.ensures.runs)))
+    rw result (runs-first _ _ _ _ _ _ _ _ (runs-at _ _ _ _ _ _ _ _ held c.in_err-end.ensures.runs))
 
 pub write_text-requires : goal.write_text-requires
 write_text-requires g c =
@@ -27,7 +27,7 @@ pub returns-clause-runs : goal.returns-clause-runs
 returns-clause-runs g c =
     let held = (c.requires.devices fin.empty false).root in
     let version = c.args.machine.now.script.version in
-    let runs = runs-at _ _ _ _ _ _ _ _ held (rw c.settings_of.ensures at c.in_ok-end.ensures.runs) in
+    let runs = runs-at _ _ _ _ _ _ _ _ held c.in_ok-end.ensures.runs in
     rw (c.or.ensures, c.and.ensures)
     (runs-then _ _ _ _ _ c.args.task.now.report _ (λ trace. report_text version (exit_code_at trace.last) trace.last.tally) _ _ c.in_ok-end.end
     runs
@@ -42,7 +42,7 @@ returns-clause-watcher g c = λ root_view root files.
     let held = (c.requires.devices fin.empty false).root in
     rw (c.or.ensures, c.and.ensures)
     (shown-then _ c.write_text.result c.in_ok-end.end
-    (rw c.settings_of.ensures at (c.in_ok-end.ensures.watcher root_view (root ∙ sym held) files)))
+    (c.in_ok-end.ensures.watcher root_view (root ∙ sym held) files))
 
 pub returns-in_err-end-clause-refusals : goal.returns-in_err-end-clause-refusals
 returns-in_err-end-clause-refusals g c =
