@@ -35,11 +35,6 @@ module _ (files : Option Nodes) where
 
 -- ==== What the work of a command is: which files it writes; and that no refusal of it is one that the words alone decide.
 
--- ---- the summary of a workload
-
-summary-given : (count : ℕ) → IsOfInputs (λ value. Unit {0}) (accepted_summary count)
-summary-given count = search (rules, then-given, source-given, script-given)
-
 -- ---- what is written
 
 -- what is done writes the outputs of the task, and runs beneath its root
@@ -63,7 +58,7 @@ plan-asked (tasks.Assemble task) =
 plan-asked (tasks.Disassemble task) =
     asked-then (PlanWrites (tasks.Disassemble task)) (disassembly_of task) _ (disassembly-asked task) (λ text. record { paths = refl; root = refl })
 plan-asked (tasks.Generate count) =
-    asked-then (PlanWrites (tasks.Generate count)) (Answer (accepted_summary count)) _ (summary-given count)
+    asked-then (PlanWrites (tasks.Generate count)) (Answer (accepted_summary count)) _ (search (rules, then-given, source-given, script-given))
     (λ text. record { paths = refl; root = refl })
 plan-asked (tasks.Line path) =
     asked-then (PlanWrites (tasks.Line path)) (machines_of path) _ (machines-asked path)

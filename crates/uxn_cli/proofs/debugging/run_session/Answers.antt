@@ -1,5 +1,4 @@
-use Rattle.uxn_cli.proofs.Clauses.Works.{requested_output, outside-of-tree, is_err, ◌≡◌, ◌∙◌, refl, ap, rules, Err, Some, log_over, first_state}
-use Rattle.uxn_cli.proofs.Clauses.Works.{RootView, Watching}
+use Rattle.uxn_cli.proofs.Clauses.Works.{requested_output, outside-of-tree, is_err, ◌≡◌, ◌∙◌, refl, ap, rules, Err, Some, log_over, first_state, RootView, Watching}
 unfoldable use Rattle.uxn_cli.proofs.Clauses.Works.{reference_trace}
 use Rattle.uxn_cli.proofs.Clauses.Works.{refuses-then, filled-of-tree, runs-as, runs-first, runs-then, stays-if}
 use Rattle.uxn_cli.proofs.debugging.run_session.Goals as goal

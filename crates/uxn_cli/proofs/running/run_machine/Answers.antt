@@ -10,11 +10,6 @@ pub run_script-requires-clause-frames : goal.run_script-requires-clause-frames
 run_script-requires-clause-frames g c = ap (λ devices. devices.time.frames) c.new-bus.ensures.devices_now
     ∙ (c.requires.devices fin.empty false).frames
 
--- how a run ended is its exit code and its tally
-end-of : (exit : ℕ) (tally : Tally) (last : State) → exit ≡ exit_code_at last → tally ≡ last.tally
-    → record { exit = exit; tally = tally } ≡ run_end last
-end-of exit tally last code counted = rw (code, counted) refl
-
 pub returns-clause-runs : goal.returns-clause-runs
 unfolding reference_trace
 returns-clause-runs g c =
@@ -27,10 +22,7 @@ returns-clause-runs g c =
           let ends = c.in_ok-tally.ensures.ok.from (first_devices machine.script root_view) stands in
           record {
             made = rw (bus.tree_now, bus.out_now, bus.err_now) at ends.follows.makes;
-            ends = end-of c.exit_code.result c.in_ok-tally.tally (machine_trace c.args.settings.now machine root_view).last
-                (c.exit_code.ensures
-                ∙ ap exit_code_of (c.stored.ensures.stored (machine_trace c.args.settings.now machine root_view).last.devices
-                ends.follows.devices.devices)) ends.follows.tally;
+            ends = rw (c.exit_code.ensures, c.stored.ensures.stored _ ends.follows.devices.devices, ends.follows.tally) refl;
             names = tt;
           };
       ledger = rw (bus.tree_now, bus.out_now, bus.err_now) at c.in_ok-tally.ensures.ledger;

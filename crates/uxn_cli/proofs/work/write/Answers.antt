@@ -1,6 +1,5 @@
 use Rattle.uxn_cli.proofs.Clauses.Works.{◌≡◌, rules, Ok, Err, refl, sym, ◌∙◌, subst, WritesOutputs, Plan, planned, Write, inquires-stop}
-use Rattle.uxn_cli.proofs.Clauses.Works.{inquires-last, observed_paths, halt_of_inquiry, observed_texts, Written, plan-outputs, halted-unready}
-use Rattle.uxn_cli.proofs.Clauses.Works.{accepted-after, does-behind, does-write}
+use Rattle.uxn_cli.proofs.Clauses.Works.{inquires-last, observed_paths, halt_of_inquiry, observed_texts, Written, plan-outputs, halted-unready, accepted-after, does-behind, does-write}
 use Rattle.uxn_arguments.specs.declared.task.Task.TheVariants as tasks
 use Rattle.uxn_cli.proofs.work.write.Goals as goal
 
