@@ -1,0 +1,3 @@
+mod ArgumentLemmas
+mod LineLemmas
+mod ReadingLemmas

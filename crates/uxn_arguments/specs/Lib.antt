@@ -1,3 +1,5 @@
+pub mod Choices
+pub mod Parsing
 pub mod Values
 pub mod Options
 pub mod Words

@@ -3,7 +3,7 @@
 use Rattle.std.specs.Prelude.{◌≤◌, ℕ, List, [], ◌∷◌, ◌++◌, codes, drop, Option, Some, None}
 use Rattle.std.specs.Prelude.{is_some, option_map, option_to_list, ok_or, Result, Ok, ⊤}
 use Rattle.std.specs.Option.{option_map_or}
-use Rattle.option_table.specs.Words.{Choice, choices_in, operand}
+use Rattle.uxn_arguments.specs.Choices.{Choice, choices_in, operand}
 use Rattle.uxn_arguments.specs.declared.options.TheConstants.{DEBUG_ONLY, DEBUG, ASSEMBLE, DISASSEMBLE}
 use Rattle.uxn_arguments.specs.declared.task.AssembleTask.{AssembleTask}
 use Rattle.uxn_arguments.specs.declared.task.DebugTask.{DebugTask}

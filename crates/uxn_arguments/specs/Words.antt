@@ -1,7 +1,7 @@
 -- What the words of the command line ask for (profile).
 use Rattle.std.specs.Prelude.{ℕ, List, [], ◌∷◌, ok_or, Result, Err}
 use Rattle.text_lines.specs.Named.{value_named}
-use Rattle.option_table.specs.Words.{values_over}
+use Rattle.uxn_arguments.specs.Choices.{values_over}
 use Rattle.uxn_arguments.specs.declared.task.Task.{Task}
 use Rattle.uxn_arguments.specs.declared.words.Command.{Command}
 use Rattle.uxn_arguments.specs.declared.words.TheConstants.{COMMANDS}

@@ -1,7 +1,10 @@
 //! The words of the command line: what they ask for, and which of the files that they name clash.
 #![tactic(auto)]
 
+mod choice;
+mod legal;
 mod options;
+mod reading;
 mod task;
 mod words;
 

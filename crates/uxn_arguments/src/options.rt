@@ -1,6 +1,6 @@
 //! The options of each command, and what each sets in the task that is requested.
 ghost use Rattle.std.specs.Prelude.{◌≡◌, ◌≤◌, IfOk, IfSome, option_map, option_and_then};
-ghost use Rattle.option_table.specs.Parsing.{found_value, table_choices};
+ghost use Rattle.uxn_arguments.specs.Parsing.{found_value, table_choices};
 ghost use Rattle.uxn_arguments.specs.Options.{choices_of, debug_task, run_task, requested_run};
 ghost use Rattle.uxn_arguments.specs.Options.{assemble_task, disassemble_task, requested_task, HasBudget};
 ghost use Rattle.uxn_arguments.specs.Values.{optional_path, requested_budget, requested_count, requested_path, required_path};
@@ -8,7 +8,8 @@ ghost use Rattle.uxn_arguments.specs.ReadsArguments.{ReadsArguments};
 
 use super::task::{AssembleTask, DebugTask, DisassembleTask, RunTask, Task};
 use super::words::{Command, WordFault, WordStop};
-use option_table::{Choice, ChoiceKind, Found};
+use super::choice::{Choice, ChoiceKind};
+use super::reading::Found;
 use std::alloc::Global;
 use text_lines::number_within;
 use uxn_io_traits::{Bytes, Path};

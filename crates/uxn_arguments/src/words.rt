@@ -4,6 +4,7 @@ ghost use Rattle.uxn_arguments.specs.Options.{HasBudget};
 ghost use Rattle.uxn_arguments.specs.Words.{command_task, task_of};
 ghost use Rattle.uxn_arguments.specs.ReadsArguments.{ReadsArguments};
 
+use super::reading;
 use super::task::Task;
 use std::alloc::{AllocError, Global};
 use text_lines::{Named, value_named};
@@ -73,7 +74,7 @@ impl Command {
         ensures requested { ReadsArguments result (command_task (map string_bytes words.now) self) }
         ensures budget { IfOk result HasBudget }
     {
-        match option_table::read(alloc, self.choices(), words)? {
+        match reading::read(alloc, self.choices(), words)? {
             Some(found) => self.task(alloc, &found),
             None => Err(WordStop::Refused(WordFault::NotUnderstood)),
         }

@@ -2,9 +2,9 @@ use Rattle.std.proofs.Common.{◌≡◌, ◌∙◌, ◌+◌, ◌==◌, rules, te
 use Rattle.std.specs.Prelude.{Some, None, position, option_map}
 use Rattle.std.proofs.lemmas.Iterator.{YieldsList-from_slice}
 use Rattle.std.proofs.lemmas.Iterator.Search.{position_from_yields_List}
-use Rattle.option_table.specs.Words.{is_plain, value_behind}
-use Rattle.option_table.proofs.ReadingLemmas.{value_at}
-use Rattle.option_table.proofs.words.has_plain_value.Goals as goal
+use Rattle.uxn_arguments.specs.Choices.{is_plain, value_behind}
+use Rattle.uxn_arguments.proofs.ReadingLemmas.{value_at}
+use Rattle.uxn_arguments.proofs.legal.has_plain_value.Goals as goal
 
 pub returns-in-Some : goal.returns-in-Some
 returns-in-Some c =

@@ -1,8 +1,8 @@
 use Rattle.std.proofs.Common.{◌∙◌, map, string_bytes, sym}
 use Rattle.clap.specs.Words.{app_of}
-use Rattle.option_table.specs.Parsing.{table_choices}
-use Rattle.option_table.proofs.ReadingLemmas.{read_err, read_illegal, read_ok}
-use Rattle.option_table.proofs.reading.read.Goals as goal
+use Rattle.uxn_arguments.specs.Parsing.{table_choices}
+use Rattle.uxn_arguments.proofs.ReadingLemmas.{read_err, read_illegal, read_ok}
+use Rattle.uxn_arguments.proofs.reading.read.Goals as goal
 
 pub returns-then-not-are_legal : goal.returns-then-not-are_legal
 returns-then-not-are_legal c = read_illegal (table_choices c.args.table.now) (map string_bytes c.args.words.now) (sym c.are_legal.ensures ∙ c.if-not-are_legal.true)

@@ -2,7 +2,7 @@
 ghost use Rattle.std.specs.Prelude.{◌≡◌, ◌+◌, ◌==◌, position, Some, true, map, string_bytes};
 ghost use Rattle.std.specs.Option.{option_map, option_map_or};
 ghost use Rattle.std.specs.List.{list_all};
-ghost use Rattle.option_table.specs.Words.{begins_without, is_plain, is_legal, option_text, value_behind};
+ghost use Rattle.uxn_arguments.specs.Choices.{begins_without, is_plain, is_legal, option_text, value_behind};
 
 /// Whether a text is not empty and does not begin with this byte.
 fn begins_without(byte: u8, text: &[u8]) -> bool

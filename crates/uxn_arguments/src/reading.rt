@@ -1,10 +1,10 @@
 //! What a line of words gives over a table.
 ghost use Rattle.std.specs.Prelude.{◌≡◌, IfOk, option_map, is_some, map, string_bytes};
-ghost use Rattle.option_table.specs.Words.{operand, values_over};
-ghost use Rattle.option_table.specs.Parsing.{found_value, table_choices};
+ghost use Rattle.uxn_arguments.specs.Choices.{operand, values_over};
+ghost use Rattle.uxn_arguments.specs.Parsing.{found_value, table_choices};
 
-use crate::choice::{Choice, parser};
-use crate::words::are_legal;
+use super::choice::{Choice, parser};
+use super::legal::are_legal;
 use clap::ArgMatches;
 use clap::error::ErrorKind;
 use clap::parser::ValueSource;
@@ -12,13 +12,13 @@ use std::alloc::{AllocError, Global};
 
 /// What a line gives: its operand, and its options by their names.
 #[derive(Drop)]
-pub struct Found<'a> {
+pub(crate) struct Found<'a> {
     matches: ArgMatches<'a>,
 }
 
 impl<'a> Found<'a> {
     /// The operand, which every line that was read has.
-    pub fn operand(&self) -> Option<&'a str>
+    pub(crate) fn operand(&self) -> Option<&'a str>
         ensures { option_map (λ text. text.now) result ≡ found_value self.now operand }
     {
         self.value("")
@@ -26,7 +26,7 @@ impl<'a> Found<'a> {
 
     /// The value that the words give an option, or `true` of a switch; nothing where they do not name
     /// it.
-    pub fn value(&self, name: &str) -> Option<&'a str>
+    pub(crate) fn value(&self, name: &str) -> Option<&'a str>
         ensures { option_map (λ text. text.now) result ≡ found_value self.now name.now }
     {
         match self.matches.value_source(name) {
@@ -36,7 +36,7 @@ impl<'a> Found<'a> {
     }
 
     /// Whether the words name an option or a switch.
-    pub fn has(&self, name: &str) -> bool
+    pub(crate) fn has(&self, name: &str) -> bool
         ensures { result ≡ is_some (found_value self.now name.now) }
     {
         self.value(name).is_some()
@@ -46,7 +46,7 @@ impl<'a> Found<'a> {
 /// What a line of words gives over a table, where it is legal: each word is the operand, an option of
 /// the table or its value, nothing is given twice, and nothing that is needed is missing. Errors with
 /// running out of memory.
-pub fn read<'a>(
+pub(crate) fn read<'a>(
     alloc: Global,
     table: &[Choice],
     words: &'a [String],

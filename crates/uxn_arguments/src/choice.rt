@@ -1,15 +1,15 @@
 //! The rows of a table of options, and the parser that reads words by it.
 ghost use Rattle.std.specs.Prelude.{◌≡◌, ℕ, List, Some, IfOk, false};
 ghost use Rattle.clap.specs.Words.{app_of, new_rule, rule_of};
-ghost use Rattle.option_table.specs.Words.{choice_of};
-ghost use Rattle.option_table.specs.Parsing.{choice_argument, choice_in, parser_for, table_choices};
+ghost use Rattle.uxn_arguments.specs.Choices.{choice_of};
+ghost use Rattle.uxn_arguments.specs.Parsing.{choice_argument, choice_in, parser_for, table_choices};
 
 use clap::{Arg, ArgAction, Command};
 use std::alloc::{AllocError, Global};
 
 /// What an option is.
 #[derive(Clone, Copy)]
-pub enum ChoiceKind {
+pub(crate) enum ChoiceKind {
     /// One without a value, as `--name`.
     Switch,
     /// One with a value, as `--name value` or `--name=value`.
@@ -19,7 +19,7 @@ pub enum ChoiceKind {
 }
 
 /// A row of a table: the name of an option, without the `--` before it, and what the option is.
-pub type Choice = (&'static str, ChoiceKind);
+pub(crate) type Choice = (&'static str, ChoiceKind);
 
 /// What an argument of this kind does with its uses, and whether it has to be given.
 fn uses_of(kind: ChoiceKind) -> (ArgAction, bool)

@@ -5,9 +5,9 @@ use Rattle.clap.specs.Words.{App, Rule, first_value, found_of, matched_of, new_a
 use Rattle.clap.specs.declared.builder.action.ArgAction.TheVariants.{Set, SetTrue}
 use Rattle.clap.specs.declared.parser.matches.ValueSource.{ValueSource}
 use Rattle.clap.specs.declared.parser.matches.ValueSource.TheVariants.{DefaultValue, CommandLine}
-use Rattle.option_table.specs.declared.reading.Found.{Found}
-use Rattle.option_table.specs.declared.choice.ChoiceKind.{ChoiceKind}
-use Rattle.option_table.specs.Words.{Choice, choice_of, operand}
+use Rattle.uxn_arguments.specs.declared.reading.Found.{Found}
+use Rattle.uxn_arguments.specs.declared.choice.ChoiceKind.{ChoiceKind}
+use Rattle.uxn_arguments.specs.Choices.{Choice, choice_of, operand}
 
 -- the options of the rows that the code has
 abbrev pub choice_in : Bor (List ℕ) × ChoiceKind → Choice

@@ -2,8 +2,8 @@ use Rattle.std.proofs.lemmas.Grind.{common_steps}
 use Rattle.std.proofs.Common.{arith, rules, ◌≡◌, ◌∙◌, ap, ap₂, sym, map, take, ◌∷◌, []}
 use Rattle.std.proofs.lemmas.List.{map_more, map-append}
 use Rattle.clap.specs.Words.{app_of, rule_of, with_rule}
-use Rattle.option_table.specs.Parsing.{choice_in, table_choices, choice_argument, parser_of, operand_argument}
-use Rattle.option_table.proofs.choice.parser.Goals as goal
+use Rattle.uxn_arguments.specs.Parsing.{choice_in, table_choices, choice_argument, parser_of, operand_argument}
+use Rattle.uxn_arguments.proofs.choice.parser.Goals as goal
 
 pub loop-choice-init : goal.loop-choice-init
 loop-choice-init c =

@@ -15,11 +15,11 @@ use Rattle.clap.specs.declared.error.Error.{Error}
 use Rattle.clap.specs.declared.error.kind.ErrorKind.TheVariants.{OutOfMemory}
 use Rattle.clap.specs.declared.parser.matches.Found.{Found as Matched}
 use Rattle.clap.proofs.WalkLemmas.{find_row, first_value-rows}
-use Rattle.option_table.specs.declared.reading.Found.{Found}
-use Rattle.option_table.specs.Words.{Choice, is_legal, arguments_of, value_behind, values_in, values_over}
-use Rattle.option_table.specs.Parsing.{choice_argument, found_value, from_words, parser_for}
-use Rattle.option_table.proofs.ArgumentLemmas.{choice_rule, rules_for, contents}
-use Rattle.option_table.proofs.LineLemmas.{built_is, outcome, parsed, shape, values-wanted, values_at}
+use Rattle.uxn_arguments.specs.declared.reading.Found.{Found}
+use Rattle.uxn_arguments.specs.Choices.{Choice, is_legal, arguments_of, value_behind, values_in, values_over}
+use Rattle.uxn_arguments.specs.Parsing.{choice_argument, found_value, from_words, parser_for}
+use Rattle.uxn_arguments.proofs.ArgumentLemmas.{choice_rule, rules_for, contents}
+use Rattle.uxn_arguments.proofs.LineLemmas.{built_is, outcome, parsed, shape, values-wanted, values_at}
 
 -- ---- the command is one of which `clap` says what it does
 

@@ -19,8 +19,8 @@ use Rattle.clap.specs.declared.builder.value_parser.Reading.TheVariants.{AsWritt
 use Rattle.clap.specs.declared.parser.matches.ValueSource.TheVariants.{DefaultValue, CommandLine}
 use Rattle.clap.specs.declared.error.kind.ErrorKind.TheVariants as kind
 use Rattle.std.specs.Prelude.{option_and_then, slice_get}
-use Rattle.option_table.specs.Parsing.{argument, choice_argument, from_words, operand_argument}
-use Rattle.option_table.specs.Words.{Choice, GivenArgument, choice_named, operand, given, is_given, argument_value}
+use Rattle.uxn_arguments.specs.Parsing.{argument, choice_argument, from_words, operand_argument}
+use Rattle.uxn_arguments.specs.Choices.{Choice, GivenArgument, choice_named, operand, given, is_given, argument_value}
 use Rattle.std.proofs.lemmas.Grind.{common_steps}
 
 -- ---- rules

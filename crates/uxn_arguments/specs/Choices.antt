@@ -5,8 +5,8 @@ use Rattle.std.specs.Prelude.{if◌then◌else◌}
 use Rattle.std.specs.List.{list_all, list_any, before_first, after_first}
 use Rattle.std.specs.Option.{option_map_or}
 use Rattle.std.specs.Str.{bytes_eq}
-use Rattle.option_table.specs.declared.choice.ChoiceKind.{ChoiceKind}
-use Rattle.option_table.specs.declared.choice.ChoiceKind.TheVariants.{Switch, Optional, Required}
+use Rattle.uxn_arguments.specs.declared.choice.ChoiceKind.{ChoiceKind}
+use Rattle.uxn_arguments.specs.declared.choice.ChoiceKind.TheVariants.{Switch, Optional, Required}
 
 -- ---- tables
 

@@ -19,12 +19,12 @@ use Rattle.clap.specs.Faults.{use_fault}
 use Rattle.clap.specs.declared.error.kind.ErrorKind.TheVariants as kind
 use Rattle.clap.proofs.FaultLemmas.{leaf_fault}
 use Rattle.clap.proofs.WalkLemmas.{list_any-map}
-use Rattle.option_table.specs.Parsing.{parser_for}
-use Rattle.option_table.specs.Words.{Choice, GivenArgument, choice_named, choice_step, operand, follow, given, is_given, is_legal, is_plain}
-use Rattle.option_table.specs.Words.{arguments_of, each_once, lacks_some, name_before, option_text, value_behind, values_in}
-use Rattle.option_table.proofs.ArgumentLemmas.{Fits, IsKnown, by_long, choice_rule, conflict, defaults_pass, filled_rules, known, operand_rule}
-use Rattle.option_table.proofs.ArgumentLemmas.{or_none, row, rows_given, rows_known, ruled, rules_for, same-sym, contents, use_faults, use_rows}
-use Rattle.option_table.proofs.ArgumentLemmas.{values_for, with_defaults}
+use Rattle.uxn_arguments.specs.Parsing.{parser_for}
+use Rattle.uxn_arguments.specs.Choices.{Choice, GivenArgument, choice_named, choice_step, operand, follow, given, is_given, is_legal, is_plain}
+use Rattle.uxn_arguments.specs.Choices.{arguments_of, each_once, lacks_some, name_before, option_text, value_behind, values_in}
+use Rattle.uxn_arguments.proofs.ArgumentLemmas.{Fits, IsKnown, by_long, choice_rule, conflict, defaults_pass, filled_rules, known, operand_rule}
+use Rattle.uxn_arguments.proofs.ArgumentLemmas.{or_none, row, rows_given, rows_known, ruled, rules_for, same-sym, contents, use_faults, use_rows}
+use Rattle.uxn_arguments.proofs.ArgumentLemmas.{values_for, with_defaults}
 use Rattle.std.proofs.lemmas.Grind.{common_steps}
 
 -- ---- words

@@ -1,9 +1,9 @@
 use Rattle.std.proofs.Common.{◌∙◌, string_bytes, rules, tests}
 use Rattle.std.proofs.lemmas.Iterator.{YieldsList-from_slice}
 use Rattle.std.proofs.lemmas.Iterator.Search.{all_from_yields_List}
-use Rattle.option_table.specs.Words.{is_legal}
-use Rattle.option_table.proofs.ReadingLemmas.{list_all-map}
-use Rattle.option_table.proofs.words.are_legal.Goals as goal
+use Rattle.uxn_arguments.specs.Choices.{is_legal}
+use Rattle.uxn_arguments.proofs.ReadingLemmas.{list_all-map}
+use Rattle.uxn_arguments.proofs.legal.are_legal.Goals as goal
 
 pub returns : goal.returns
 returns c =

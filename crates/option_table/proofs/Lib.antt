@@ -1,3 +1,0 @@
-mod ArgumentLemmas
-mod LineLemmas
-mod ReadingLemmas
