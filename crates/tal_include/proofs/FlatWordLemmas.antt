@@ -8,9 +8,9 @@ use Rattle.std.proofs.lemmas.Bool.{cases_Bool, eq-eqb}
 use Rattle.std.proofs.lemmas.Bool.Decides.{nat_tests}
 use Rattle.std.proofs.lemmas.List.{map-append}
 use Rattle.tal_words.proofs.BlankFree.{all_joined}
-use Rattle.uxn_inquiry.specs.Along.{Always}
-use Rattle.uxn_inquiry.specs.Inquiry.{Answer, and_then}
-use Rattle.uxn_inquiry.specs.InquiryLaws.{always-mapped, always-said, always-through}
+use Rattle.uxn_io_traits.specs.Along.{Always}
+use Rattle.uxn_io_traits.specs.Inquiry.{Answer, and_then}
+use Rattle.uxn_io_traits.specs.InquiryLaws.{always-mapped, always-said, always-through}
 use Rattle.tal_words.specs.declared.span.Word.{Word}
 use Rattle.tal_words.specs.declared.fault.Fault.{Fault}
 use Rattle.uxn_limits.specs.declared.limits.TheConstants.{TEXT_LIMIT, INCLUDE_DEPTH}

@@ -3,3 +3,4 @@ pub mod ChunkLemmas
 pub mod SpokenLemmas
 pub mod FlatWordLemmas
 pub mod TildeLemmas
+pub mod SourceLemmas

@@ -3,11 +3,11 @@ use Rattle.std.proofs.Common.{◌≡◌, ℕ, zero, suc, ◌+◌, ◌-◌, ◌<�
 use Rattle.std.proofs.Common.{arith}
 use Rattle.std.specs.List.{list_any}
 use Rattle.uxn_io_traits.specs.State.{TreeState}
-use Rattle.uxn_inquiry.specs.declared.halt.Halt.{Halt}
-use Rattle.uxn_inquiry.specs.Inquiry.{Answer, and_then, through}
-use Rattle.uxn_inquiry.specs.Inquires.{Inquires, Says}
-use Rattle.uxn_inquiry.specs.Leads.{Leads, Here}
-use Rattle.uxn_inquiry.specs.Laws.{leads-more, leads-end, leads-stop, leads-step, leads-refused, inquires-said, through-more, through-stop}
+use Rattle.uxn_io_traits.specs.declared.halt.Halt.{Halt}
+use Rattle.uxn_io_traits.specs.Inquiry.{Answer, and_then, through}
+use Rattle.uxn_io_traits.specs.Inquires.{Inquires, Says}
+use Rattle.uxn_io_traits.specs.Leads.{Leads, Here}
+use Rattle.uxn_io_traits.specs.AskingLaws.{leads-more, leads-end, leads-stop, leads-step, leads-refused, inquires-said, through-more, through-stop}
 use Rattle.tal_words.specs.declared.span.Word.{Word}
 use Rattle.tal_words.specs.Source.{word_text}
 use Rattle.uxn_limits.specs.declared.limits.TheConstants.{INCLUDE_DEPTH}

@@ -4,7 +4,7 @@ use Rattle.std.specs.Prelude.{Result, Ok, Err}
 use Rattle.std.specs.List.{list_any}
 use Rattle.std.specs.Option.{option_map_or}
 use Rattle.uxn_limits.specs.declared.limits.TheConstants.{INCLUDE_DEPTH, TEXT_LIMIT}
-use Rattle.uxn_inquiry.specs.Inquiry.{Inquiry, Answer, and_then, through, result_as, file_of}
+use Rattle.uxn_io_traits.specs.Inquiry.{Inquiry, Answer, and_then, through, result_as, file_of}
 use Rattle.tal_words.specs.declared.span.Word.{Word}
 use Rattle.tal_words.specs.Source.{word_text}
 use Rattle.tal_words.specs.Comments.{words_of, word_fault}

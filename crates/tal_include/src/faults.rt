@@ -5,8 +5,7 @@ ghost use Rattle.tal_include.specs.Includes.{include_kind_name, include_fault_at
 
 use arrayvec::ArrayVec;
 use tal_words::FaultKind;
-use uxn_inquiry::Halt;
-use uxn_io_traits::Path;
+use uxn_io_traits::{Halt, Path};
 use uxn_limits::limits::WORD_LIMIT;
 
 /// Where a word stands: in which file, and at which line and column of it.

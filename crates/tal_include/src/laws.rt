@@ -2,8 +2,8 @@
 
 ghost use Rattle.std.specs.Prelude.{◌≡◌, ℕ, List, IfOk};
 ghost use Rattle.uxn_io_traits.specs.Files.{Nodes};
-ghost use Rattle.uxn_inquiry.specs.Along.{AgreeAlong, Always};
-ghost use Rattle.uxn_inquiry.specs.Inquiry.{answer_in};
+ghost use Rattle.uxn_io_traits.specs.Along.{AgreeAlong, Always};
+ghost use Rattle.uxn_io_traits.specs.Inquiry.{answer_in};
 ghost use Rattle.tal_include.specs.Splice.{splice_inquiry};
 ghost use Rattle.tal_include.specs.FlatWords.{HasItsWords};
 

@@ -2,8 +2,8 @@
 
 ghost use Rattle.std.specs.Prelude.{◌≡◌, ℕ, ◌+◌, ◌<◌, ◌==◌, ◌&&◌, None, length, nat_lt, IfOk, IfSome, OnOk, is_some};
 ghost use Rattle.std.specs.List.{list_any};
-ghost use Rattle.uxn_inquiry.specs.Inquires.{Inquires, Says};
-ghost use Rattle.uxn_inquiry.specs.declared.halt.Halt.TheVariants.{Refused};
+ghost use Rattle.uxn_io_traits.specs.Inquires.{Inquires, Says};
+ghost use Rattle.uxn_io_traits.specs.declared.halt.Halt.TheVariants.{Refused};
 ghost use Rattle.tal_words.specs.declared.span.Word.{Word};
 ghost use Rattle.tal_words.specs.Source.{word_text};
 ghost use Rattle.tal_words.specs.Comments.{words_of, word_fault};
@@ -16,8 +16,7 @@ use crate::faults::{IncludeFault, IncludeKind, Origin, SpliceStop};
 use crate::spliced::Spliced;
 use std::alloc::{AllocError, Global};
 use tal_words::{AsmStop, Word, fault_word, words};
-use uxn_inquiry::read_whole;
-use uxn_io_traits::{Bytes, FileBytes, Path, Tree};
+use uxn_io_traits::{Bytes, FileBytes, Path, Tree, read_whole};
 use uxn_limits::limits;
 
 /// A file that is gone through: its path, its bytes and its words.
@@ -51,7 +50,7 @@ pub fn splice<T: Tree>(
 }
 
 /// The same, of a source without a fault of words that was cut into its words.
-pub fn splice_words<T: Tree>(
+pub(crate) fn splice_words<T: Tree>(
     alloc: Global,
     tree: &mut T,
     main: &Path,
@@ -73,7 +72,7 @@ pub fn splice_words<T: Tree>(
 }
 
 /// The words of a source that is spliced: it has an include word, and no fault of words. A source without a tilde is not cut.
-pub fn words_to_splice(alloc: Global, source: &[u8]) -> Result<Option<Vec<Word>>, AllocError>
+pub(crate) fn words_to_splice(alloc: Global, source: &[u8]) -> Result<Option<Vec<Word>>, AllocError>
     ensures spliced { IfOk result (λ answer. is_some answer ≡ is_spliced source.now) }
     ensures words { IfOk result (λ answer. IfSome answer (λ words. words.items ≡ words_of source.now)) }
     ensures faultless { IfOk result (λ answer. IfSome answer (λ _. word_fault source.now ≡ None)) }

@@ -9,7 +9,7 @@ use Rattle.uxn_arguments.specs.declared.task.Task.{Task}
 use Rattle.uxn_task_files.specs.declared.refusal.Refusal.{Refusal}
 use Rattle.uxn_task_files.specs.declared.refusal.Halt.{Halt}
 use Rattle.uxn_task_files.specs.declared.refusal.Halt.TheVariants.{Refused, Stopped}
-use Rattle.uxn_inquiry.specs.Gives.{Gives}
+use Rattle.uxn_io_traits.specs.Gives.{Gives}
 use Rattle.uxn_cli.specs.Verdict.{Work, Run, Write, inquiry_of}
 use Rattle.uxn_cli.specs.Outcome.{Outcome, outcome_of}
 use Rattle.uxn_cli.specs.RunJob.{trace_of}

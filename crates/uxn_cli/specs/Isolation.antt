@@ -1,6 +1,6 @@
 -- A call depends on what it asks of a tree, and on what lies beneath the root of the program that it runs.
 use Rattle.std.specs.Prelude.{◌≡◌, ℕ, ◌⊎◌, Some, Result}
-use Rattle.uxn_inquiry.specs.Along.{AgreeAlong}
+use Rattle.uxn_io_traits.specs.Along.{AgreeAlong}
 use Rattle.uxn_io_traits.specs.Files.{Nodes}
 use Rattle.uxn_io_traits.specs.Outside.{World}
 use Rattle.uxn_arguments.specs.declared.task.Task.{Task}

@@ -9,6 +9,9 @@ pub mod Causes
 pub mod Outside
 pub mod Observation
 pub mod Isolation
+pub mod WorkloadSource
+pub mod Growing
+pub mod Summary
 pub mod Workload
 pub mod Call
 pub mod Clauses

@@ -1,8 +1,8 @@
 -- What the code holds once the inputs of a task are accepted, as its plan; and what a run has before it begins.
 use Rattle.std.specs.Prelude.{◌≡◌, ℕ, Bool, List, [], Option, option_map, Result, Ok, Err, IfSome}
 use Rattle.std.specs.Global.{Vec}
-use Rattle.uxn_inquiry.specs.Gives.{Gives}
-use Rattle.uxn_inquiry.specs.Inquires.{Inquires}
+use Rattle.uxn_io_traits.specs.Gives.{Gives}
+use Rattle.uxn_io_traits.specs.Inquires.{Inquires}
 use Rattle.uxn_io_traits.specs.Files.{Nodes}
 use Rattle.uxn_io_traits.specs.State.{TreeState, SinkState}
 use Rattle.uxn_opcodes.specs.Rule.{new_core}

@@ -3,8 +3,8 @@ use Rattle.std.specs.Prelude.{ℕ, List, [], codes, if◌then◌else◌, Option,
 use Rattle.std.specs.List.{list_all}
 use Rattle.uxn_limits.specs.declared.limits.TheConstants.{USUAL_BUDGET}
 use Rattle.tal_rom.specs.Assembly.{rom_of}
-use Rattle.tal_assembly.specs.Sources.{own_answer}
-use Rattle.uxn_inquiry.specs.Inquiry.{Inquiry, Answer, and_then, result_as}
+use Rattle.tal_include.specs.Sources.{own_answer}
+use Rattle.uxn_io_traits.specs.Inquiry.{Inquiry, Answer, and_then, result_as}
 use Rattle.uxn_task_files.specs.declared.refusal.Refusal.{Refusal}
 use Rattle.uxn_task_files.specs.declared.refusal.Refusal.TheVariants.{Faulty, OtherEvents}
 use Rattle.uxn_task_files.specs.Accepted.{validated_script, GivenInputs, run_of, files_of}
@@ -17,7 +17,7 @@ use Rattle.uxn_arguments.specs.declared.task.DebugTask.{DebugTask}
 use Rattle.uxn_arguments.specs.declared.task.RunTask.{RunTask}
 use Rattle.uxn_arguments.specs.declared.task.Task.{Task}
 use Rattle.uxn_arguments.specs.declared.task.Task.TheVariants as tasks
-use Rattle.uxn_workload.specs.Source.{workload_source}
+use Rattle.uxn_cli.specs.WorkloadSource.{workload_source}
 use Rattle.uxn_cli.specs.RunJob.{Debugging, RunJob, debugging}
 use Rattle.uxn_cli.specs.Workload.{workload_text}
 

@@ -7,7 +7,7 @@ use Rattle.vector_loop.specs.Trace.{Trace}
 use Rattle.uxn_io_traits.specs.Outside.{put_by}
 use Rattle.uxn_line.specs.Places.{no_outputs}
 use Rattle.uxn_line.specs.Streams.{run_of}
-use Rattle.uxn_workload.specs.Summary.{Summary, summary_text}
+use Rattle.uxn_cli.specs.Summary.{Summary, summary_text}
 use Rattle.uxn_cli.specs.RunJob.{no_root_view, reference_trace, run_end}
 use Rattle.uxn_cli.specs.declared.running.RunEnd.{RunEnd}
 

@@ -7,9 +7,9 @@ ghost use Rattle.uxn_task_files.specs.Accepted.{validated_script};
 ghost use Rattle.uxn_line.specs.Streams.{run_of};
 ghost use Rattle.uxn_cli.specs.Workload.{HasRunAlone, workload_text};
 ghost use Rattle.tal_rom.specs.Assembly.{rom_of};
-ghost use Rattle.tal_assembly.specs.Sources.{own_answer};
-ghost use Rattle.uxn_inquiry.specs.Inquires.{Says};
-ghost use Rattle.uxn_inquiry.specs.Inquiry.{result_as};
+ghost use Rattle.tal_include.specs.Sources.{own_answer};
+ghost use Rattle.uxn_io_traits.specs.Inquires.{Says};
+ghost use Rattle.uxn_io_traits.specs.Inquiry.{result_as};
 ghost use Rattle.uxn_task_files.specs.declared.refusal.Refusal.TheVariants.{Faulty};
 ghost use Rattle.uxn_cli.specs.Verdict.{accepted_summary};
 
@@ -18,14 +18,15 @@ use super::machine::new_machine;
 use super::running::{RunEnd, Settings, run_machine};
 use script_lines::Script;
 use std::alloc::{AllocError, Global};
-use tal_assembly::SourceFault;
+use tal_include::SourceFault;
 use tal_rom::assemble;
 use tal_words::AsmStop;
-use uxn_inquiry::Halt;
-use uxn_io_traits::NoTree;
+use uxn_io_traits::{Halt, NoTree};
 use uxn_limits::limits;
 use uxn_task_files::{Refusal, validate_script};
-use uxn_workload::{GrowingSink, Ran, source};
+use super::growing::GrowingSink;
+use super::making::workload_source;
+use super::summary::Ran;
 use vector_loop::{NoWatch, Outputs};
 
 /// The script of a workload.
@@ -117,7 +118,7 @@ fn summary_of(alloc: Global, source: &[u8], rom: &[u8]) -> Result<Vec<u8>, Halt<
 pub fn summarize(alloc: Global, count: u16) -> Result<Vec<u8>, Halt<Refusal>>
     ensures { Says (λ text. text.items) (accepted_summary count) result }
 {
-    let text = source(alloc, count)?;
+    let text = workload_source(alloc, count)?;
     let rom = assembled_rom(alloc, &text)?;
     summary_of(alloc, &text, &rom)
 }

@@ -4,7 +4,7 @@ ghost use Rattle.uxn_arguments.specs.Options.{HasBudget};
 ghost use Rattle.uxn_arguments.specs.Places.{HasApartOutputs};
 ghost use Rattle.uxn_arguments.specs.declared.task.Task.TheVariants as tasks;
 ghost use Rattle.uxn_arguments.specs.declared.task.Task.{Task};
-ghost use Rattle.uxn_inquiry.specs.Inquires.{Inquires};
+ghost use Rattle.uxn_io_traits.specs.Inquires.{Inquires};
 ghost use Rattle.uxn_io_traits.specs.State.{SinkState, TreeState};
 ghost use Rattle.uxn_cli.specs.Outside.{DoesWork, SameHost, host_state, state_of_host};
 ghost use Rattle.uxn_cli.specs.Prepared.{printed_plan};
@@ -16,7 +16,7 @@ use super::joining::run_line;
 use super::playing::play;
 use std::alloc::Global;
 use uxn_arguments::{AssembleTask, Task};
-use uxn_inquiry::Halt as InquiryHalt;
+use uxn_io_traits::Halt as InquiryHalt;
 use uxn_io_traits::{Path, Sink, Tree};
 use uxn_line::are_of_console;
 use uxn_task_files::{

@@ -1,4 +1,5 @@
-//! Tests of whole calls over a tree and outputs in memory of which a call fails, as no command-line case can make it.
+//! Tests of whole calls over a tree and outputs in memory of which a call fails, as no command-line case can make it; and
+//! of the source of a workload.
 #![tactic(auto)]
 
 #[cfg(test)]
@@ -21,3 +22,5 @@ mod telling;
 mod telling_tests;
 #[cfg(test)]
 mod turn_tests;
+#[cfg(test)]
+mod workload_tests;

@@ -2,3 +2,4 @@ pub mod ComponentLemmas
 pub mod PathLemmas
 pub mod PutLemmas
 pub mod ReadLemmas
+pub mod AskingLemmas

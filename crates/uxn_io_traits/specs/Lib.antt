@@ -31,3 +31,13 @@ pub mod Unknown
 pub mod UnknownLaws
 pub mod TakingLaws
 pub mod Nothing
+pub mod Question
+pub mod Inquiry
+pub mod Leads
+pub mod Inquires
+pub mod Along
+pub mod InquiryLaws
+pub mod LeadsLaws
+pub mod AskingLaws
+pub mod Gives
+pub mod GivesLaws

@@ -1,6 +1,6 @@
 //! Tests of calls of the lower crates that no command reaches, or whose answers none shows: the sinks and trees in memory, the
 //! kinds of faults of paths, how many words an expander visited, what a patcher tells, which rows of a screen are composed, printed
-//! scripts, includes, the source of a workload, moments gone back to, and the turns of machines in a line.
+//! scripts, includes, moments gone back to, and the turns of machines in a line.
 #![tactic(auto)]
 
 #[cfg(test)]
@@ -19,5 +19,3 @@ mod screen_tests;
 mod script_tests;
 #[cfg(test)]
 mod undo_tests;
-#[cfg(test)]
-mod workload_tests;

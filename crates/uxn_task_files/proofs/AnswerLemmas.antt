@@ -2,7 +2,7 @@
 use Rattle.uxn_task_files.proofs.Common.{◌≡◌, ℕ, ◌∙◌, List, [], Option, Some, None, Ok, Err, Result, ap, Bool, true, false, if◌then◌else◌}
 use Rattle.uxn_task_files.proofs.Common.{Nodes, Label, RunTask, DebugTask, AssembleTask, Run, Assemble, Refusal, answer_in}
 unfoldable use Rattle.uxn_task_files.proofs.Common.{run_of, program_of, symbols_of, script_of, commands_of, source_of, files_of}
-use Rattle.uxn_inquiry.specs.InquiryLaws.{answered, answer-more, answer-refused}
+use Rattle.uxn_io_traits.specs.InquiryLaws.{answered, answer-more, answer-refused}
 use Rattle.uxn_task_files.specs.Accepted.{GivenInputs, first_source}
 
 pub same_ok : {A : Type 0} (one other : A) → ◌≡◌ {A = Result A Refusal} (Ok one) (Ok other) → one ≡ other

@@ -37,13 +37,13 @@ pub use Rattle.uxn_task_files.specs.declared.outputs.Output.{Output}
 pub use Rattle.uxn_task_files.specs.declared.refusal.Halt.{Halt}
 pub use Rattle.uxn_task_files.specs.declared.refusal.Halt.TheVariants.{Refused}
 pub use Rattle.uxn_task_files.specs.declared.refusal.Refusal.{Refusal}
-pub use Rattle.tal_assembly.specs.Sources.{Sourced, sourced_of}
-unfoldable pub use Rattle.tal_assembly.specs.Sources.{source_inquiry}
-pub use Rattle.uxn_inquiry.specs.Inquiry.{Inquiry, Answer, and_then, gather, answer_in, result_as}
-pub use Rattle.uxn_inquiry.specs.Gives.{CanAnswer, Gives}
-pub use Rattle.uxn_inquiry.specs.Inquires.{Inquires, Says}
-pub use Rattle.uxn_inquiry.specs.Leads.{Leads}
-pub use Rattle.uxn_inquiry.specs.Laws.{inquires-stop, inquires-more, inquires-last, inquires-as, leads-stop, leads-more, leads-said, gather-stop, gather-more, gather-end}
+pub use Rattle.tal_include.specs.Sources.{Sourced, sourced_of}
+unfoldable pub use Rattle.tal_include.specs.Sources.{source_inquiry}
+pub use Rattle.uxn_io_traits.specs.Inquiry.{Inquiry, Answer, and_then, gather, answer_in, result_as}
+pub use Rattle.uxn_io_traits.specs.Gives.{CanAnswer, Gives}
+pub use Rattle.uxn_io_traits.specs.Inquires.{Inquires, Says}
+pub use Rattle.uxn_io_traits.specs.Leads.{Leads}
+pub use Rattle.uxn_io_traits.specs.AskingLaws.{inquires-stop, inquires-more, inquires-last, inquires-as, leads-stop, leads-more, leads-said, gather-stop, gather-more, gather-end}
 pub use Rattle.uxn_task_files.specs.Accepted.{SourceFiles, output_texts}
 unfoldable pub use Rattle.uxn_task_files.specs.Accepted.{source_of, program_of, symbols_of, script_of, commands_of, setup_of, machine_of, run_of, files_of, disassembly_of, machines_of, free_output}
 pub use Rattle.uxn_task_files.specs.Accepted.{free_outputs, said_output}

@@ -3,7 +3,7 @@ use Rattle.uxn_task_files.proofs.Common.{Bool, if◌then◌else◌, ◌&&◌, Li
 use Rattle.uxn_task_files.proofs.Common.{ℕ, ◌<◌, ◌∙◌, ◌∷◌, ◌≡◌, common_steps, get_or-map, length-map, bytes_eq-Decides, list_any, can_create}
 use Rattle.uxn_task_files.proofs.Common.{Nodes, AreFree, CanAnswer, Gives, free_outputs, paths_of, Output}
 unfoldable use Rattle.uxn_task_files.proofs.Common.{free_output}
-use Rattle.uxn_inquiry.specs.Inquiry.{unless_refused}
+use Rattle.uxn_io_traits.specs.Inquiry.{unless_refused}
 use Rattle.std.proofs.lemmas.List.Folds.{list_any_at}
 use Rattle.uxn_task_files.specs.declared.refusal.Refusal.TheVariants.{NoOutput}
 

@@ -7,10 +7,10 @@ use Rattle.uxn_task_files.specs.Accepted.{validated_script}
 unfoldable use Rattle.uxn_task_files.proofs.Common.{text_of, source_of, program_of, symbols_of, script_of, commands_of, setup_of}
 unfoldable use Rattle.uxn_task_files.proofs.Common.{machine_of, run_of, files_of, disassembly_of, machines_of, free_output}
 unfoldable use Rattle.uxn_task_files.proofs.Common.{source_inquiry}
-use Rattle.tal_assembly.specs.declared.fault.SourceFault.{SourceFault}
-use Rattle.uxn_inquiry.specs.Along.{Always}
-use Rattle.uxn_inquiry.specs.Inquiry.{Ask, unless_refused, result_as}
-use Rattle.uxn_inquiry.specs.InquiryLaws.{always-bind}
+use Rattle.tal_include.specs.declared.source_fault.SourceFault.{SourceFault}
+use Rattle.uxn_io_traits.specs.Along.{Always}
+use Rattle.uxn_io_traits.specs.Inquiry.{Ask, unless_refused, result_as}
+use Rattle.uxn_io_traits.specs.InquiryLaws.{always-bind}
 use Rattle.uxn_task_files.specs.Statuses.{status_of}
 use Rattle.uxn_task_files.specs.declared.inputs.InputKind.{InputKind}
 use Rattle.uxn_task_files.specs.declared.inputs.InputKind.TheVariants as kinds

@@ -5,12 +5,12 @@ use Rattle.uxn_task_files.proofs.Common.{list_any, with_created, TreeEnded, Tree
 use Rattle.uxn_task_files.proofs.Common.{inputs_of, outputs_of, root_of, AreApart, AreFree, DoesPart, EndsMaking, HalfDone, IsUnmade, Made, MakesOutputs, Refuses, WritesOutputs}
 use Rattle.uxn_task_files.proofs.Common.{paths_of, observed_text, observed_texts, AreFiles, CanMake, Text, text_paths, with_empty, Did, creating_all, writing}
 use Rattle.uxn_task_files.proofs.Common.{Output, Gives, Inquires, free_outputs, Refusal, rules, Result, Bool, Halt}
-use Rattle.uxn_inquiry.specs.declared.halt.Halt.{Halt as InquiryHalt}
-use Rattle.uxn_inquiry.specs.declared.halt.Halt.TheVariants as denied
+use Rattle.uxn_io_traits.specs.declared.halt.Halt.{Halt as InquiryHalt}
+use Rattle.uxn_io_traits.specs.declared.halt.Halt.TheVariants as denied
 use Rattle.uxn_task_files.specs.declared.refusal.Halt.TheVariants.{Refused, Stopped}
 use Rattle.uxn_opcodes.specs.declared.Stop.TheVariants.{TreeFault, SinkFault, NoMemory}
-use Rattle.uxn_inquiry.specs.GivesLaws.{inquires-gives}
-use Rattle.uxn_inquiry.specs.Laws.{inquires-looked}
+use Rattle.uxn_io_traits.specs.GivesLaws.{inquires-gives}
+use Rattle.uxn_io_traits.specs.AskingLaws.{inquires-looked}
 use Rattle.uxn_io_traits.specs.FaultLaws.{counted-then}
 use Rattle.uxn_task_files.specs.Blame.{halt_of_inquiry}
 use Rattle.uxn_task_files.proofs.ApartLemmas.{makes_all, made_files}

@@ -1,7 +1,7 @@
 -- What closes each `?` of a body that asks a tree, and its end.
 use Rattle.uxn_task_files.proofs.Common.{◌≡◌, Result, Ok, Err, TreeState, Inquiry, Answer, and_then, Inquires, Says, inquires-stop, inquires-more, inquires-last}
-use Rattle.uxn_inquiry.specs.declared.halt.Halt.{Halt}
-use Rattle.uxn_inquiry.specs.declared.halt.Halt.TheVariants.{NoMemory}
+use Rattle.uxn_io_traits.specs.declared.halt.Halt.{Halt}
+use Rattle.uxn_io_traits.specs.declared.halt.Halt.TheVariants.{NoMemory}
 
 module _ {A B C D E : Type 0} (view : C → A) (last : D → B) (inquiry : Inquiry (Result A E)) (a b : TreeState) (result : Result D (Halt E)) where
   -- the call stopped, or was refused

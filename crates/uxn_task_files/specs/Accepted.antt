@@ -13,7 +13,7 @@ use Rattle.tal_listing.specs.Disassembly.{disassembly}
 use Rattle.tal_listing.specs.Listing.{listing_of}
 use Rattle.tal_rom.specs.Assembly.{rom_of, layout}
 use Rattle.tal_rom.specs.Program.{Program}
-use Rattle.tal_assembly.specs.Sources.{Sourced, source_inquiry}
+use Rattle.tal_include.specs.Sources.{Sourced, source_inquiry}
 use Rattle.tal_symbols.specs.Reading.{symbols_in}
 use Rattle.tal_symbols.specs.SymbolFile.{symbol_file}
 use Rattle.tal_words.specs.declared.name.Label.{Label}
@@ -23,7 +23,7 @@ use Rattle.uxn_arguments.specs.declared.task.DisassembleTask.{DisassembleTask}
 use Rattle.uxn_arguments.specs.declared.task.RunTask.{RunTask}
 use Rattle.uxn_arguments.specs.declared.task.Task.{Task}
 use Rattle.uxn_arguments.specs.declared.task.Task.TheVariants.{Run, Assemble}
-use Rattle.uxn_inquiry.specs.Inquiry.{Inquiry, Answer, and_then, gather, creatable, refused_as, result_as}
+use Rattle.uxn_io_traits.specs.Inquiry.{Inquiry, Answer, and_then, gather, creatable, refused_as, result_as}
 use Rattle.uxn_task_files.specs.declared.inputs.InputKind.TheVariants as kinds
 use Rattle.uxn_task_files.specs.declared.refusal.Refusal.{Refusal}
 use Rattle.uxn_task_files.specs.declared.refusal.Refusal.TheVariants.{Faulty, BadSymbols, BadScript, BadCommands, BadSetup, NoOutput}

@@ -1,8 +1,8 @@
 -- Who is to blame where a call ended early, and the status that says so.
 use Rattle.std.specs.Prelude.{ℕ, ◌==◌, Bool, true, false, Result, Ok, Err, if◌then◌else◌}
 use Rattle.uxn_io_traits.specs.Faults.{Blame, Nobody, TheTree, ASink}
-use Rattle.uxn_inquiry.specs.declared.halt.Halt.{Halt as InquiryHalt}
-use Rattle.uxn_inquiry.specs.declared.halt.Halt.TheVariants.{Refused as Denied, TreeFault as TreeFailed, NoMemory as OutOfMemory}
+use Rattle.uxn_io_traits.specs.declared.halt.Halt.{Halt as InquiryHalt}
+use Rattle.uxn_io_traits.specs.declared.halt.Halt.TheVariants.{Refused as Denied, TreeFault as TreeFailed, NoMemory as OutOfMemory}
 use Rattle.uxn_task_files.specs.declared.refusal.Refusal.{Refusal}
 use Rattle.uxn_opcodes.specs.declared.Stop.{Stop}
 use Rattle.uxn_opcodes.specs.declared.Stop.TheVariants.{TreeFault, SinkFault, NoMemory}

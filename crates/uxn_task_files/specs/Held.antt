@@ -1,7 +1,7 @@
 -- What the code holds of inputs that are accepted, as the definitions see it.
 use Rattle.std.specs.Prelude.{◌≡◌, ℕ, ◌≤◌, List, length, All}
 use Rattle.script_lines.specs.Held.{bytes_in}
-use Rattle.tal_assembly.specs.Sources.{SourceView}
+use Rattle.tal_include.specs.Sources.{SourceView}
 use Rattle.uxn_io_traits.specs.ByteList.{ByteList}
 use Rattle.uxn_memory.specs.Bytes.{largest_rom}
 use Rattle.uxn_task_files.specs.declared.assembling.Written.{Written}

@@ -6,10 +6,10 @@ use Rattle.setup_lines.specs.declared.setup.SetupKind.TheVariants.{LongSetup}
 use Rattle.tal_include.specs.declared.faults.IncludeKind.TheVariants.{Words}
 use Rattle.tal_rom.specs.Rom.{rom_limit}
 use Rattle.uxn_limits.specs.declared.limits.TheConstants.{TEXT_LIMIT, SYMBOLS_LIMIT}
-use Rattle.tal_assembly.specs.declared.fault.SourceFault.{SourceFault}
+use Rattle.tal_include.specs.declared.source_fault.SourceFault.{SourceFault}
 use Rattle.tal_symbols.specs.declared.stop.SymbolKind.TheVariants.{Long}
 use Rattle.tal_words.specs.declared.fault.FaultKind.TheVariants.{LongSource}
-use Rattle.uxn_inquiry.specs.Inquiry.{Inquiry, Answer, and_then, file_of}
+use Rattle.uxn_io_traits.specs.Inquiry.{Inquiry, Answer, and_then, file_of}
 use Rattle.uxn_io_traits.specs.ByteList.{tight}
 use Rattle.uxn_io_traits.specs.declared.trees.FileBytes.{FileBytes}
 use Rattle.uxn_io_traits.specs.declared.trees.FileBytes.TheVariants.{Found, Missing as NoFile, TooLong}

@@ -1,6 +1,6 @@
 -- The one line of each refusal.
 use Rattle.std.specs.Prelude.{ℕ, List, [], ◌∷◌, ◌++◌, codes, decimal}
-use Rattle.tal_assembly.specs.Lines.{message_of}
+use Rattle.tal_include.specs.Lines.{message_of}
 use Rattle.tal_symbols.specs.Answers.{symbol_kind_name}
 use Rattle.script_lines.specs.Kinds.{script_kind_name}
 use Rattle.debug_commands.specs.Kinds.{command_kind_name}

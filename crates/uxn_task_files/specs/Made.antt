@@ -2,7 +2,7 @@
 use Rattle.std.specs.Prelude.{◌≡◌, ◌⊎◌, ℕ, true, false, List, Option, None, Some, Result, Ok, Err, IfSome, IsSome}
 use Rattle.std.specs.List.{list_any}
 use Rattle.std.specs.Str.{bytes_eq}
-use Rattle.uxn_inquiry.specs.Gives.{Gives}
+use Rattle.uxn_io_traits.specs.Gives.{Gives}
 use Rattle.uxn_io_traits.specs.Ended.{TreeEnded, TreeLooked, Refused as CreateRefused, creating_all}
 use Rattle.uxn_io_traits.specs.Faults.{Counted}
 use Rattle.uxn_io_traits.specs.Files.{Nodes, file_at}

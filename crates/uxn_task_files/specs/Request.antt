@@ -9,7 +9,7 @@ use Rattle.uxn_task_files.specs.declared.refusal.Refusal.TheVariants.{NotUnderst
 use Rattle.uxn_arguments.specs.Values.{then_steps}
 use Rattle.uxn_arguments.specs.Words.{task_of}
 use Rattle.uxn_arguments.specs.Places.{first_clash}
-use Rattle.uxn_inquiry.specs.Inquiry.{result_as}
+use Rattle.uxn_io_traits.specs.Inquiry.{result_as}
 
 -- why words are refused: they are not legal (128), or one that names a file is no path (129)
 abbrev pub word_refusal : WordFault → Refusal

@@ -1,7 +1,7 @@
 //! What `asm` does: a source is assembled, and what is requested is written.
 ghost use Rattle.std.specs.Prelude.{◌≡◌, Ok, IfOk};
 ghost use Rattle.tal_rom.specs.Assembly.{IsAssembled};
-ghost use Rattle.uxn_inquiry.specs.Inquires.{Inquires};
+ghost use Rattle.uxn_io_traits.specs.Inquires.{Inquires};
 ghost use Rattle.uxn_task_files.specs.Accepted.{files_of, output_texts};
 ghost use Rattle.uxn_task_files.specs.Held.{model_of_files};
 ghost use Rattle.uxn_task_files.specs.Made.{AreApart, WritesOutputs};
@@ -13,11 +13,11 @@ use super::program::Program;
 use super::refusal::{Halt, Refusal};
 use super::sources::accept_source;
 use std::alloc::{AllocError, Global};
-use tal_assembly::AssembledSource;
+use tal_include::AssembledSource;
 use tal_listing::listing;
 use tal_symbols::write_symbols;
 use uxn_arguments::AssembleTask;
-use uxn_inquiry::Halt as InquiryHalt;
+use uxn_io_traits::Halt as InquiryHalt;
 use uxn_io_traits::{Path, Tree};
 
 /// The files that were requested, with what they are to hold.

@@ -1,5 +1,5 @@
 //! The commands of a debugger.
-ghost use Rattle.uxn_inquiry.specs.Inquires.{Inquires, Says};
+ghost use Rattle.uxn_io_traits.specs.Inquires.{Inquires, Says};
 ghost use Rattle.uxn_task_files.specs.Accepted.{commands_of, validated_commands};
 
 use super::inputs::{InputKind, read_text};
@@ -7,8 +7,7 @@ use super::refusal::Refusal;
 use debug_commands::{CommandStop, DebugCommand, read_commands};
 use std::alloc::Global;
 use tal_words::Label;
-use uxn_inquiry::Halt;
-use uxn_io_traits::{Path, Tree};
+use uxn_io_traits::{Halt, Path, Tree};
 
 /// The commands of a text.
 fn validate_commands(

@@ -1,5 +1,5 @@
 //! What `dis` prints.
-ghost use Rattle.uxn_inquiry.specs.Inquires.{Inquires};
+ghost use Rattle.uxn_io_traits.specs.Inquires.{Inquires};
 ghost use Rattle.uxn_task_files.specs.Accepted.{disassembly_of};
 
 use super::inputs::{InputKind, read_text};
@@ -8,8 +8,7 @@ use super::symbols::accept_symbols;
 use std::alloc::Global;
 use tal_listing::disassemble;
 use uxn_arguments::DisassembleTask;
-use uxn_inquiry::Halt;
-use uxn_io_traits::Tree;
+use uxn_io_traits::{Halt, Tree};
 
 /// The disassembly of a ROM file, where it and the symbols are accepted.
 pub fn disassemble_rom<T: Tree>(

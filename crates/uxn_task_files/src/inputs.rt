@@ -1,7 +1,7 @@
 //! Inputs: the files that are read, one after the other, each by its kind.
 ghost use Rattle.std.specs.Prelude.{◌≡◌, ◌≤◌, length, IfOk};
 ghost use Rattle.uxn_io_traits.specs.WholeFile.{KeepsLimit};
-ghost use Rattle.uxn_inquiry.specs.Inquires.{Inquires, Says};
+ghost use Rattle.uxn_io_traits.specs.Inquires.{Inquires, Says};
 ghost use Rattle.uxn_task_files.specs.Inputs.{text_of, size_rule, kind_text, too_long};
 
 use super::refusal::Refusal;
@@ -9,11 +9,10 @@ use debug_commands::CommandKind;
 use script_lines::ScriptKind;
 use setup_lines::SetupKind;
 use std::alloc::Global;
-use tal_assembly::{IncludeKind, SourceFault};
+use tal_include::{IncludeKind, SourceFault};
 use tal_symbols::SymbolKind;
 use tal_words::FaultKind;
-use uxn_inquiry::{Halt, read_whole};
-use uxn_io_traits::{Bytes, FileBytes, Path, Tree};
+use uxn_io_traits::{Bytes, FileBytes, Halt, Path, Tree, read_whole};
 use uxn_limits::limits;
 
 /// What a file is read as.

@@ -3,8 +3,8 @@ ghost use Rattle.std.specs.Prelude.{[], ◌≡◌, ◌≤◌, length, IfOk};
 ghost use Rattle.std.specs.List.{All};
 ghost use Rattle.uxn_memory.specs.Bytes.{largest_rom};
 ghost use Rattle.script_lines.specs.Held.{bytes_in};
-ghost use Rattle.uxn_inquiry.specs.Inquires.{Inquires, Says};
-ghost use Rattle.uxn_inquiry.specs.Inquiry.{gather};
+ghost use Rattle.uxn_io_traits.specs.Inquires.{Inquires, Says};
+ghost use Rattle.uxn_io_traits.specs.Inquiry.{gather};
 ghost use Rattle.uxn_task_files.specs.Accepted.{machine_of, machines_of, said_setup, setup_of};
 ghost use Rattle.uxn_task_files.specs.Held.{AreMachines, model_of_machines};
 
@@ -16,8 +16,7 @@ use super::sources::accept_source;
 use script_lines::Script;
 use setup_lines::{Setup, SetupStop, read_setup};
 use std::alloc::Global;
-use uxn_inquiry::Halt;
-use uxn_io_traits::{Bytes, Path, Tree};
+use uxn_io_traits::{Bytes, Halt, Path, Tree};
 
 /// What a line is made of, once all that its setup names is accepted.
 #[derive(Drop)]

@@ -1,6 +1,6 @@
 //! The files that a command writes.
 ghost use Rattle.std.specs.Prelude.{◌≡◌, ◌++◌, ◌∷◌, [], IfSome, OnOk};
-ghost use Rattle.uxn_inquiry.specs.Inquires.{Inquires, Says};
+ghost use Rattle.uxn_io_traits.specs.Inquires.{Inquires, Says};
 ghost use Rattle.uxn_task_files.specs.Accepted.{free_output, free_outputs, said_output};
 ghost use Rattle.uxn_io_traits.specs.Ended.{creating_all};
 ghost use Rattle.uxn_task_files.specs.Writing.{filling_all};
@@ -11,8 +11,7 @@ ghost use Rattle.uxn_task_files.specs.Made.{DoesPart};
 use super::refusal::{Halt, Refusal};
 use std::alloc::AllocError;
 use uxn_arguments::is_among;
-use uxn_inquiry::{Halt as InquiryHalt, can_create};
-use uxn_io_traits::{Path, Tree, append_all};
+use uxn_io_traits::{Halt as InquiryHalt, Path, Tree, append_all, can_create};
 
 /// A file that is to be written.
 #[derive(Drop)]

@@ -1,7 +1,7 @@
 //! The program that is run: a ROM, or a source that is assembled.
 ghost use Rattle.std.specs.Prelude.{◌≤◌, length, IfOk};
 ghost use Rattle.uxn_memory.specs.Bytes.{largest_rom};
-ghost use Rattle.uxn_inquiry.specs.Inquires.{Inquires};
+ghost use Rattle.uxn_io_traits.specs.Inquires.{Inquires};
 ghost use Rattle.uxn_task_files.specs.Accepted.{program_of};
 ghost use Rattle.uxn_task_files.specs.Held.{model_of_program};
 
@@ -9,10 +9,9 @@ use super::inputs::{InputKind, read_text};
 use super::refusal::Refusal;
 use super::sources::accept_source;
 use std::alloc::Global;
-use tal_assembly::AssembledSource;
+use tal_include::AssembledSource;
 use tal_words::Label;
-use uxn_inquiry::Halt;
-use uxn_io_traits::{Bytes, Path, Tree};
+use uxn_io_traits::{Bytes, Halt, Path, Tree};
 
 /// What a run has of a program that is accepted.
 #[derive(Drop)]

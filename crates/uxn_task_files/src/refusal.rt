@@ -1,6 +1,6 @@
 //! Why a call ends before its work is done, and the line of a refusal.
 ghost use Rattle.std.specs.Prelude.{◌≡◌, [], ◌∷◌, ◌++◌, codes, decimal, IfOk};
-ghost use Rattle.tal_assembly.specs.Lines.{message_of};
+ghost use Rattle.tal_include.specs.Lines.{message_of};
 ghost use Rattle.uxn_task_files.specs.Lines.{line, refusal_line};
 ghost use Rattle.uxn_task_files.specs.Statuses.{status_of};
 ghost use Rattle.uxn_task_files.specs.Blame.{as_step};
@@ -10,9 +10,9 @@ use debug_commands::CommandKind;
 use script_lines::ScriptKind;
 use setup_lines::SetupKind;
 use std::alloc::{AllocError, Global};
-use tal_assembly::SourceFault;
+use tal_include::SourceFault;
 use tal_symbols::SymbolKind;
-use uxn_inquiry::Halt as InquiryHalt;
+use uxn_io_traits::Halt as InquiryHalt;
 use uxn_io_traits::{Bytes, Failed, Path, Sink, decimal, put_all};
 use uxn_opcodes::Stop;
 

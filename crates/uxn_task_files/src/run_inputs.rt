@@ -1,7 +1,7 @@
 //! What `play` and `debug` are given.
 ghost use Rattle.std.specs.Prelude.{◌≡◌, ◌≤◌, length, option_and_then, option_map, IfOk};
 ghost use Rattle.uxn_memory.specs.Bytes.{largest_rom};
-ghost use Rattle.uxn_inquiry.specs.Inquires.{Inquires};
+ghost use Rattle.uxn_io_traits.specs.Inquires.{Inquires};
 ghost use Rattle.uxn_task_files.specs.Accepted.{run_of};
 ghost use Rattle.uxn_task_files.specs.Held.{model_of_inputs, model_of_program};
 
@@ -14,8 +14,7 @@ use debug_commands::DebugCommand;
 use script_lines::Script;
 use std::alloc::Global;
 use uxn_arguments::{DebugTask, RunTask};
-use uxn_inquiry::Halt;
-use uxn_io_traits::{Path, Tree};
+use uxn_io_traits::{Halt, Path, Tree};
 
 /// The file of symbols that a debugger is given.
 fn symbols_input(debug: &Option<DebugTask>) -> Option<Path>

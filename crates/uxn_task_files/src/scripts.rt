@@ -1,13 +1,12 @@
 //! The script that a run is given.
-ghost use Rattle.uxn_inquiry.specs.Inquires.{Inquires, Says};
+ghost use Rattle.uxn_io_traits.specs.Inquires.{Inquires, Says};
 ghost use Rattle.uxn_task_files.specs.Accepted.{script_of, validated_script};
 
 use super::inputs::{InputKind, read_text};
 use super::refusal::Refusal;
 use script_lines::{Script, ScriptStop, read_script};
 use std::alloc::Global;
-use uxn_inquiry::Halt;
-use uxn_io_traits::{Path, Tree};
+use uxn_io_traits::{Halt, Path, Tree};
 
 /// The script of a text.
 pub fn validate_script(alloc: Global, text: &[u8]) -> Result<Script, Halt<Refusal>>

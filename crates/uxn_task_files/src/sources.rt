@@ -1,17 +1,16 @@
 //! Sources that are read.
 ghost use Rattle.std.specs.Prelude.{◌≡◌, Ok, IfOk};
 ghost use Rattle.tal_rom.specs.Assembly.{IsAssembled};
-ghost use Rattle.uxn_inquiry.specs.Inquires.{Inquires, halted_as};
+ghost use Rattle.uxn_io_traits.specs.Inquires.{Inquires, halted_as};
 ghost use Rattle.uxn_task_files.specs.declared.refusal.Refusal.TheVariants.{Faulty};
 ghost use Rattle.uxn_task_files.specs.Accepted.{source_of};
-ghost use Rattle.tal_assembly.specs.Sources.{sourced_of};
+ghost use Rattle.tal_include.specs.Sources.{sourced_of};
 
 use super::inputs::{InputKind, read_text};
 use super::refusal::Refusal;
 use std::alloc::Global;
-use tal_assembly::{AssembledSource, SourceFault, read_source};
-use uxn_inquiry::Halt;
-use uxn_io_traits::{Path, Tree};
+use tal_include::{AssembledSource, SourceFault, read_source};
+use uxn_io_traits::{Halt, Path, Tree};
 
 /// A source, or the refusal of its first fault.
 fn as_faulty(

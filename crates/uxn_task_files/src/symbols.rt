@@ -1,5 +1,5 @@
 //! The labels of a symbol file.
-ghost use Rattle.uxn_inquiry.specs.Inquires.{Inquires, Says};
+ghost use Rattle.uxn_io_traits.specs.Inquires.{Inquires, Says};
 ghost use Rattle.uxn_task_files.specs.Accepted.{symbols_of, validated_symbols};
 
 use super::inputs::{InputKind, read_text};
@@ -7,8 +7,7 @@ use super::refusal::Refusal;
 use std::alloc::Global;
 use tal_symbols::{SymbolStop, read_symbols};
 use tal_words::Label;
-use uxn_inquiry::Halt;
-use uxn_io_traits::{Path, Tree};
+use uxn_io_traits::{Halt, Path, Tree};
 
 /// The labels of a text.
 fn validate_symbols(alloc: Global, text: &[u8]) -> Result<Vec<Label>, Halt<Refusal>>

@@ -4,12 +4,12 @@ ghost use Rattle.uxn_arguments.specs.Options.{HasBudget};
 ghost use Rattle.uxn_arguments.specs.Places.{HasApartOutputs};
 ghost use Rattle.uxn_task_files.specs.Request.{apart};
 ghost use Rattle.uxn_task_files.specs.Request.{request};
-ghost use Rattle.uxn_inquiry.specs.Inquires.{Says};
+ghost use Rattle.uxn_io_traits.specs.Inquires.{Says};
 
 use super::refusal::Refusal;
 use std::alloc::Global;
 use uxn_arguments::{Task, WordFault, WordStop, read_words};
-use uxn_inquiry::Halt;
+use uxn_io_traits::Halt;
 
 /// A task whose outputs do not clash, or else the first one that does.
 fn apart(alloc: Global, task: Task) -> Result<Task, Halt<Refusal>>

@@ -1,4 +1,4 @@
-use Rattle.uxn_inquiry.specs.InquiryLaws.{same-answer}
+use Rattle.uxn_io_traits.specs.InquiryLaws.{same-answer}
 use Rattle.tal_include.specs.Splice.{splice_inquiry}
 use Rattle.tal_include.proofs.laws.splicing_looks_at_included_files_alone.Goals as goal
 

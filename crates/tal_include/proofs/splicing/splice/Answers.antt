@@ -1,8 +1,8 @@
 use Rattle.std.proofs.Common.{Vec, Global}
 use Rattle.std.proofs.lemmas.Result.{err_from_is_err_and}
 use Rattle.tal_words.specs.declared.span.Word.{Word}
-use Rattle.uxn_inquiry.specs.Leads.{Here}
-use Rattle.uxn_inquiry.specs.Laws.{leads-refused}
+use Rattle.uxn_io_traits.specs.Leads.{Here}
+use Rattle.uxn_io_traits.specs.AskingLaws.{leads-refused}
 use Rattle.tal_include.specs.Splice.{words_in, splice_inquiry}
 use Rattle.tal_include.proofs.splicing.splice.Goals as goal
 

@@ -1,6 +1,6 @@
 use Rattle.std.proofs.Common.{Ok, Err, refl, ap, ◌∙◌}
 use Rattle.std.proofs.lemmas.Result.{err_from_is_err_and}
-use Rattle.uxn_inquiry.specs.Laws.{inquires-ok, inquires-halt}
+use Rattle.uxn_io_traits.specs.AskingLaws.{inquires-ok, inquires-halt}
 use Rattle.tal_include.specs.Flat.{Flat, empty_flat}
 use Rattle.tal_include.proofs.WalkLemmas.{source-words}
 use Rattle.tal_include.proofs.splicing.splice_words.Goals as goal

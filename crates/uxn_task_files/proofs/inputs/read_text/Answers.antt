@@ -1,8 +1,8 @@
 use Rattle.uxn_task_files.proofs.Common.{rules, Ok, FileBytes}
 unfoldable use Rattle.uxn_task_files.proofs.Common.{text_of}
 use Rattle.std.specs.Prelude.{IfOk}
-use Rattle.uxn_inquiry.specs.Inquiry.{file_of}
-use Rattle.uxn_inquiry.specs.Laws.{always-answers}
+use Rattle.uxn_io_traits.specs.Inquiry.{file_of}
+use Rattle.uxn_io_traits.specs.AskingLaws.{always-answers}
 use Rattle.uxn_io_traits.specs.WholeFile.{KeepsLimit}
 use Rattle.uxn_task_files.specs.Inputs.{size_rule}
 use Rattle.uxn_task_files.proofs.StepLemmas.{step-stop, step-last}

@@ -1,7 +1,7 @@
 use Rattle.uxn_task_files.proofs.Common.{Err, [], ap, arith, length, refl, rules, ◌+◌, ◌∙◌, ◌∷◌, ◌≡◌, ◌≤◌, length-append}
 use Rattle.uxn_task_files.proofs.Common.{All-push, ByteList, largest_rom, map-append, machine_of, gather-stop, gather-more, gather-end, leads-more, drop_more}
-use Rattle.uxn_inquiry.specs.Laws.{leads-start, leads-no-memory}
-use Rattle.uxn_inquiry.specs.declared.halt.Halt.TheVariants.{NoMemory}
+use Rattle.uxn_io_traits.specs.AskingLaws.{leads-start, leads-no-memory}
+use Rattle.uxn_io_traits.specs.declared.halt.Halt.TheVariants.{NoMemory}
 use Rattle.uxn_task_files.proofs.machines.accept_roms.Goals as goal
 
 pub loop-path-init : goal.loop-path-init

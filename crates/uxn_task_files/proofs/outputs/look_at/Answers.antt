@@ -1,5 +1,5 @@
 use Rattle.uxn_task_files.proofs.Common.{Err, Ok, rules, ◌≡◌, refl, drop_all, drop_more, leads-stop, leads-said, leads-more}
-use Rattle.uxn_inquiry.specs.Laws.{leads-start}
+use Rattle.uxn_io_traits.specs.AskingLaws.{leads-start}
 use Rattle.uxn_task_files.proofs.outputs.look_at.Goals as goal
 
 pub loop-output-init : goal.loop-output-init

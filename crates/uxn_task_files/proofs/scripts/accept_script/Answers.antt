@@ -1,6 +1,6 @@
 use Rattle.uxn_task_files.proofs.Common.{rules}
 unfoldable use Rattle.uxn_task_files.proofs.Common.{script_of}
-use Rattle.uxn_inquiry.specs.Laws.{inquires-said}
+use Rattle.uxn_io_traits.specs.AskingLaws.{inquires-said}
 use Rattle.uxn_task_files.proofs.StepLemmas.{step-stop, step-last}
 use Rattle.uxn_task_files.proofs.scripts.accept_script.Goals as goal
 

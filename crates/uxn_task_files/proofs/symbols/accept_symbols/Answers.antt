@@ -1,6 +1,6 @@
 use Rattle.uxn_task_files.proofs.Common.{rules, refl}
 unfoldable use Rattle.uxn_task_files.proofs.Common.{symbols_of}
-use Rattle.uxn_inquiry.specs.Laws.{inquires-said}
+use Rattle.uxn_io_traits.specs.AskingLaws.{inquires-said}
 use Rattle.uxn_task_files.proofs.StepLemmas.{step-stop, step-last}
 use Rattle.uxn_task_files.proofs.symbols.accept_symbols.Goals as goal
 

@@ -2,7 +2,7 @@ use Rattle.std.proofs.Common.{refl, length, Vec, Global}
 use Rattle.std.proofs.lemmas.Result.{err_from_is_err_and}
 use Rattle.uxn_io_traits.specs.ByteList.{ByteList}
 use Rattle.tal_words.specs.declared.span.Word.{Word}
-use Rattle.uxn_inquiry.specs.Laws.{leads-start, through-end}
+use Rattle.uxn_io_traits.specs.AskingLaws.{leads-start, through-end}
 use Rattle.tal_include.specs.Splice.{at_word, walk}
 use Rattle.tal_include.proofs.WalkLemmas.{no-path, no-bytes, no-words, all-words, include-more, include-stop, plain-more, plain-stop}
 use Rattle.tal_include.proofs.spliced.Spliced.+walk.Goals as goal

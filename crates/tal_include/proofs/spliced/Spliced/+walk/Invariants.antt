@@ -1,6 +1,6 @@
 use Rattle.std.proofs.Common.{◌+◌, ◌*◌, drop}
-use Rattle.uxn_inquiry.specs.Inquiry.{through}
-use Rattle.uxn_inquiry.specs.Leads.{Leads}
+use Rattle.uxn_io_traits.specs.Inquiry.{through}
+use Rattle.uxn_io_traits.specs.Leads.{Leads}
 use Rattle.tal_include.specs.Splice.{at_word, through_words, walk}
 use Rattle.tal_include.proofs.spliced.Spliced.+walk.Given as goal
 

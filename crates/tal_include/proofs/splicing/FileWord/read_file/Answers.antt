@@ -1,7 +1,7 @@
 use Rattle.std.proofs.lemmas.Result.{err_from_is_err_and}
 use Rattle.uxn_io_traits.specs.ByteList.{ByteList}
 use Rattle.uxn_io_traits.specs.declared.trees.FileBytes.{FileBytes}
-use Rattle.uxn_inquiry.specs.Laws.{inquires-stop, inquires-last}
+use Rattle.uxn_io_traits.specs.AskingLaws.{inquires-stop, inquires-last}
 use Rattle.tal_include.specs.Includes.{bytes_or_kind}
 use Rattle.tal_include.specs.Splice.{found_at}
 use Rattle.tal_include.proofs.splicing.FileWord.read_file.Goals as goal

@@ -54,15 +54,15 @@ pub use Rattle.uxn_cli.specs.declared.playing.Prepared.{Prepared}
 pub use Rattle.uxn_cli.specs.declared.running.RunEnd.{RunEnd}
 pub use Rattle.uxn_debugger.specs.Log.{log_over}
 pub use Rattle.uxn_debugger.specs.Watching.{Watching}
-pub use Rattle.uxn_inquiry.specs.Along.{AgreeAlong}
-pub use Rattle.uxn_inquiry.specs.Gives.{Gives}
-pub use Rattle.uxn_inquiry.specs.GivesLaws.{always-gives, gives-answer, gives-bind, inquires-gives, answer-gives}
-pub use Rattle.uxn_inquiry.specs.Inquires.{Inquires, Says}
-pub use Rattle.uxn_inquiry.specs.Inquiry.{Inquiry, Answer, and_then, answer_in}
-pub use Rattle.uxn_inquiry.specs.InquiryLaws.{answered, answer-more, same-answer, answer-refused}
-pub use Rattle.uxn_inquiry.specs.Laws.{inquires-looked, inquires-last, inquires-stop, inquires-said}
-pub use Rattle.uxn_inquiry.specs.declared.halt.Halt.{Halt as InquiryHalt}
-pub use Rattle.uxn_inquiry.specs.declared.halt.Halt.TheVariants.{Refused as Denied, TreeFault as TreeFailed, NoMemory as OutOfMemory}
+pub use Rattle.uxn_io_traits.specs.Along.{AgreeAlong}
+pub use Rattle.uxn_io_traits.specs.Gives.{Gives}
+pub use Rattle.uxn_io_traits.specs.GivesLaws.{always-gives, gives-answer, gives-bind, inquires-gives, answer-gives}
+pub use Rattle.uxn_io_traits.specs.Inquires.{Inquires, Says}
+pub use Rattle.uxn_io_traits.specs.Inquiry.{Inquiry, Answer, and_then, answer_in}
+pub use Rattle.uxn_io_traits.specs.InquiryLaws.{answered, answer-more, same-answer, answer-refused}
+pub use Rattle.uxn_io_traits.specs.AskingLaws.{inquires-looked, inquires-last, inquires-stop, inquires-said}
+pub use Rattle.uxn_io_traits.specs.declared.halt.Halt.{Halt as InquiryHalt}
+pub use Rattle.uxn_io_traits.specs.declared.halt.Halt.TheVariants.{Refused as Denied, TreeFault as TreeFailed, NoMemory as OutOfMemory}
 pub use Rattle.uxn_io_traits.specs.AppendingLaws.{changed_by-file}
 pub use Rattle.uxn_io_traits.specs.AtPath.{contents_at, Spares, Adds, HoldsFilePrefix}
 pub use Rattle.uxn_io_traits.specs.AtPathLaws.{node_by, node-by, spared-by, spared, spared-prefix, kept-node, files-after}
@@ -122,7 +122,7 @@ pub use Rattle.uxn_task_files.specs.declared.refusal.Halt.{Halt}
 pub use Rattle.uxn_task_files.specs.declared.refusal.Halt.TheVariants.{Refused, Stopped}
 pub use Rattle.uxn_task_files.specs.declared.refusal.Refusal.{Refusal}
 pub use Rattle.uxn_task_files.specs.declared.refusal.Refusal.TheVariants.{OtherEvents, NoOutput}
-pub use Rattle.uxn_workload.specs.Summary.{summary_text}
+pub use Rattle.uxn_cli.specs.Summary.{summary_text}
 pub use Rattle.varvara_bus.proofs.Appends.{appended-stays}
 pub use Rattle.varvara_bus.specs.Bus.{IsOutside, BusRepresents, FilesStay, IsFileWhereKnown, contents_on}
 pub use Rattle.varvara_bus.specs.State.{HasFiles, DevicesRepresent, new_state}

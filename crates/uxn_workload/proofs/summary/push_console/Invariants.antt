@@ -1,6 +1,0 @@
-use Rattle.std.proofs.Common.{◌≡◌, ◌++◌, take}
-use Rattle.uxn_workload.specs.Summary.{digits}
-use Rattle.uxn_workload.proofs.summary.push_console.Given as goal
-
-abbrev pub invariant-loop-byte : goal.invariant-loop-byte
-invariant-loop-byte l = l.text.items ≡ l.initial.text.items ++ digits (take l.byte-index l.bytes)
