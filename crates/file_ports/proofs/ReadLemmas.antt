@@ -54,3 +54,8 @@ put_more old memory now piece at done n room so_far size put = grind (arith, com
 -- nothing was put
 pub puts_nothing : (contents : Option (List ℕ)) (most at : ℕ) (memory : List ℕ) → PutsPrefix contents most memory at memory
 puts_nothing = grind (arith, common_steps)
+
+-- at most so many, and so at most more
+pub prefix_within : (contents : Option (List ℕ)) (most more at : ℕ) (before now : List ℕ) → most ≤ more → PutsPrefix contents most before at now
+    → PutsPrefix contents more before at now
+prefix_within contents most more at before now within prefix = grind (arith, common_steps)

@@ -25,6 +25,10 @@ pub digits-none : (value : ℕ) → hex_digits 0 value ≡ []
 unfolding hex_digits
 digits-none value = refl
 
+-- a number fits as a sixteenth of it does in one digit less
+pub fits-less : (rest left : ℕ) → 0 < left → nat_lt (rest / 16) (16 ^ (left - 1)) ≡ nat_lt rest (16 ^ left)
+fits-less rest left h = grind (arith, common_steps)
+
 -- where nothing is left of a number, or no digit, it is observed whether it fits
 pub fits-end : (rest left : ℕ) → (0 < rest → 0 < left → ⊥) → (rest == 0) ≡ nat_lt rest (16 ^ left)
 fits-end zero left stop = sym ((Decides-ltb 0 (16 ^ left)).1 (one-le-pow left 16 (omega arith)))

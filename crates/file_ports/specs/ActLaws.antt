@@ -1,22 +1,22 @@
 -- Laws of the actions: they change nothing outside the root part, and a device goes on to suit its root.
-use Rattle.std.specs.Prelude.{◌≡◌, ℕ, Bool, true, false, not, ◌&&◌, List, [], ◌∷◌, map as list_map}
+use Rattle.std.specs.Prelude.{◌≡◌, ℕ, Bool, true, false, not, ◌&&◌, ◌||◌, List, [], ◌∷◌, take, drop, map as list_map}
 use Rattle.std.specs.Prelude.{Option, Some, None, IfSome, Result, Ok, Err, IsTrue, if◌then◌else◌}
 use Rattle.std.specs.Option.{option_map}
 use Rattle.std.specs.Str.{bytes_eq}
 use Rattle.std.specs.FinMap as map
-use Rattle.std.proofs.lemmas.Grind.{common_steps}
-use Rattle.std.proofs.Common.{arith, refl, ap, sym, subst, ◌∙◌}
+use Rattle.std.proofs.Common.{refl, ap, sym, subst, ◌∙◌}
 use Rattle.std.proofs.lemmas.Slice.Eq.{bytes_eq-Decides}
 use Rattle.uxn_io_traits.specs.AtPath.{path_changed, Spares}
 use Rattle.uxn_io_traits.specs.AtPathLaws.{node-by, spared-by}
 use Rattle.uxn_io_traits.specs.EachLaws.{each-map, each-so}
 use Rattle.uxn_io_traits.specs.PathText.{parent_of}
 use Rattle.uxn_io_traits.specs.Files.{Nodes, is_folder, is_folder_at}
-use Rattle.uxn_io_traits.specs.Outside.{Change, Creates, ToFile, Removes, files_by}
+use Rattle.uxn_io_traits.specs.Outside.{Change, ToOut, ToErr, Creates, ToFile, Removes, files_by}
+use Rattle.uxn_memory.specs.Bytes.{bank0}
 use Rattle.file_ports.specs.RootPart.{is_in, LiesIn, below, parent_is_folder, is_in_part, IsIn, LieIn}
-use Rattle.file_ports.specs.Device.{FileState, idle_at, suits, Suits}
-use Rattle.file_ports.specs.Actions.{FileAction, FileOutcome, adds, quiet, acts}
-use Rattle.file_ports.specs.Actions.{act, observed_in, observed_file}
+use Rattle.file_ports.specs.Device.{FileState, idle_at, suits, Suits, is_writing}
+use Rattle.file_ports.specs.Actions.{FileAction, FileOutcome, Name, Read, Write, Stat, Delete, is_file, begun, adds, quiet, acts}
+use Rattle.file_ports.specs.Actions.{act, observed_in, observed_file, count_from}
 use Rattle.file_ports.specs.AnswersAction.{file_outcome_of, changes_unknown, changes_by, device_left, ActedOrStopped}
 use Rattle.file_ports.specs.declared.stop.FileStop.{FileStop}
 use Rattle.uxn_io_traits.specs.Ended.{IsOfTree, AreOfTree}
@@ -24,7 +24,8 @@ use Rattle.file_ports.specs.BeneathLaws.{is_in-Decides, parent_outside}
 use Rattle.file_ports.specs.PartLaws.{named-suits, outcome-same}
 
 in_part : (root : Option (List ℕ)) (path : List ℕ) → IsTrue (suits root (Some path)) → IsTrue (is_in_part root (Some path))
-in_part root path lies = grind (arith, common_steps)
+in_part None path lies = lies
+in_part (Some root) path lies = lies
 
 pub pieces_lie : (root : Option (List ℕ)) (path piece : List ℕ) → IsTrue (suits root (Some path))
     → LieIn root (list_map (λ byte. ToFile path byte) piece)
@@ -32,7 +33,10 @@ pieces_lie root path piece lies = each-map (IsIn root) (λ byte. ToFile path byt
 
 added_lie : (root : Option (List ℕ)) (on writes can : Bool) (path memory piece : List ℕ) → IsTrue (suits root (Some path))
     → LieIn root (adds path memory piece (if on then Some [] else if not writes && can then Some (Creates path ∷ []) else None)).changes
-added_lie root on writes can path memory piece lies = grind (arith, common_steps, in_part, pieces_lie)
+added_lie root true writes can path memory piece lies = pieces_lie root path piece lies
+added_lie root false true can path memory piece lies = tt
+added_lie root false false true path memory piece lies = (in_part root path lies, pieces_lie root path piece lies)
+added_lie root false false false path memory piece lies = tt
 
 -- what a delete does, where a file is there or none
 abbrev removes : Bool → List ℕ → List ℕ → FileOutcome
@@ -42,21 +46,36 @@ removes there path memory =
 
 removed_lie : (root : Option (List ℕ)) (there : Bool) (path memory : List ℕ) → IsTrue (suits root (Some path))
     → LieIn root (removes there path memory).changes
-removed_lie root there path memory lies = grind (arith, common_steps, in_part)
+removed_lie root true path memory lies = (in_part root path lies, tt)
+removed_lie root false path memory lies = tt
 
 added_at : (root : Option (List ℕ)) (first : Option (List Change)) (path memory piece : List ℕ) → IsTrue (suits root (Some path))
     → Suits root (adds path memory piece first).device
-added_at root first path memory piece lies = grind (arith, common_steps)
+added_at root None path memory piece lies = lies
+added_at root (Some first) path memory piece lies = lies
 
 removed_at : (root : Option (List ℕ)) (there : Bool) (path memory : List ℕ) → IsTrue (suits root (Some path))
     → Suits root (removes there path memory).device
-removed_at root there path memory lies = grind (arith, common_steps)
+removed_at root true path memory lies = lies
+removed_at root false path memory lies = lies
 
 -- an action changes nothing but files in the root part
 at_path : (action : FileAction) (root : Option (List ℕ)) (part : Nodes) (parent : Bool) (device : FileState) (memory : List ℕ)
     (path : Option (List ℕ)) → IsTrue (suits root path)
     → LieIn root (acts action root device memory (option_map (observed_in root part parent) path)).changes
-at_path action root part parent device memory path lies = grind (arith, common_steps, added_lie, removed_lie)
+at_path (Name at) root part parent device memory path lies = tt
+at_path (Read at length) root part parent device memory None lies = tt
+at_path (Read at length) root part parent device memory (Some path) lies = tt
+at_path (Write at length keep) root part parent device memory None lies = tt
+at_path (Write at length keep) root part parent device memory (Some path) lies =
+    let observed = observed_in root part parent path in
+    added_lie root ((is_writing device.mode || keep) && is_file observed.kind) (is_writing device.mode) observed.can_make path memory
+    (take (count_from at length) (drop at (bank0 memory))) lies
+at_path (Stat at length) root part parent device memory None lies = tt
+at_path (Stat at length) root part parent device memory (Some path) lies = tt
+at_path Delete root part parent device memory None lies = tt
+at_path Delete root part parent device memory (Some path) lies =
+    removed_lie root (is_file (observed_in root part parent path).kind) path memory lies
 
 pub act-lies : (action : FileAction) (root : Option (List ℕ)) (part : Nodes) (parent : Bool) (device : FileState) (memory : List ℕ)
     → Suits root device → LieIn root (act action root part parent device memory).changes
@@ -66,14 +85,26 @@ act-lies action root part parent device memory suits = at_path action root part 
 kept_at : (action : FileAction) (root : Option (List ℕ)) (part : Nodes) (parent : Bool) (device : FileState) (memory : List ℕ)
     (path : Option (List ℕ)) → device.path ≡ path → IsTrue (suits root path)
     → Suits root (acts action root device memory (option_map (observed_in root part parent) path)).device
-kept_at action root part parent device memory path e lies = grind (arith, common_steps, added_at, removed_at, named-suits)
+kept_at (Name at) root part parent device memory path e lies = named-suits root memory at
+kept_at (Read at length) root part parent device memory None e lies = ap (suits root) e ∙ lies
+kept_at (Read at length) root part parent device memory (Some path) e lies = lies
+kept_at (Write at length keep) root part parent device memory None e lies = ap (suits root) e ∙ lies
+kept_at (Write at length keep) root part parent device memory (Some path) e lies =
+    added_at root (begun (is_writing device.mode) keep (observed_in root part parent path)) path memory
+    (take (count_from at length) (drop at (bank0 memory))) lies
+kept_at (Stat at length) root part parent device memory None e lies = ap (suits root) e ∙ lies
+kept_at (Stat at length) root part parent device memory (Some path) e lies = ap (suits root) e ∙ lies
+kept_at Delete root part parent device memory None e lies = ap (suits root) e ∙ lies
+kept_at Delete root part parent device memory (Some path) e lies =
+    removed_at root (is_file (observed_in root part parent path).kind) path memory lies
 
 pub act-suits : (action : FileAction) (root : Option (List ℕ)) (part : Nodes) (parent : Bool) (device : FileState) (memory : List ℕ)
     → Suits root device → Suits root (act action root part parent device memory).device
 act-suits action root part parent device memory suits = kept_at action root part parent device memory device.path refl suits
 
 no_path : (path : Option (List ℕ)) → IsTrue (suits None path) → path ≡ None
-no_path path suits = grind (arith, common_steps)
+no_path None suits = refl
+no_path (Some path) suits = cc
 
 -- where there is no root a device has no path, and without a path it sees nothing
 pub rootless : (device : FileState) → Suits None device → device.path ≡ None
@@ -88,11 +119,15 @@ act-nowhere action root part parent device memory e =
 -- changes in the root part are of other paths than those outside it
 apart : (root path other : List ℕ) (same : Bool) → bytes_eq path other ≡ same → is_in root other ≡ true → is_in root path ≡ false
     → same ≡ false
-apart root path other same e lies out = grind (arith, common_steps, bytes_eq-Decides)
+apart root path other true e lies out =
+    let no : false ≡ true = sym out ∙ ap (is_in root) ((bytes_eq-Decides path other).0 e) ∙ lies in cc
+apart root path other false e lies out = refl
 
 elsewhere : (root : Option (List ℕ)) (path : List ℕ) (other : Option (List ℕ)) → IsTrue (is_in_part root other)
     → suits root (Some path) ≡ false → IfSome other (λ other. bytes_eq path other ≡ false)
-elsewhere root path other lies out = grind (arith, common_steps, apart)
+elsewhere root path None lies out = tt
+elsewhere None path (Some other) lies out = cc
+elsewhere (Some root) path (Some other) lies out = apart root path other (bytes_eq path other) refl lies out
 
 pub lies-elsewhere : (root : Option (List ℕ)) (path : List ℕ) → suits root (Some path) ≡ false → (change : Change) → IsIn root change
     → Spares path change
@@ -106,7 +141,8 @@ outside-kept root q changes nodes lie out =
 
 -- the root's parent is a folder as before
 outside_part : (root p : List ℕ) (b : Bool) → is_in root p ≡ b → (LiesIn root p → ⊥) → b ≡ false
-outside_part root p b e out = grind (arith, common_steps, is_in-Decides)
+outside_part root p true e out = absurd (out ((is_in-Decides root p).0 e))
+outside_part root p false e out = refl
 
 parent_same : (root : List ℕ) (parent : Option (List ℕ)) (changes : List Change) (nodes : Nodes) → parent_of root ≡ parent
     → LieIn (Some root) changes → is_folder_at (files_by nodes changes) parent ≡ is_folder_at nodes parent
@@ -121,10 +157,15 @@ parent-kept (Some root) changes nodes lie = parent_same root (parent_of root) ch
 
 -- changes in the root part touch files alone
 no_output : (root : Option (List ℕ)) → IsTrue (is_in_part root None) → ⊥
-no_output root lies = grind (arith, common_steps)
+no_output None lies = cc
+no_output (Some root) lies = cc
 
 one-of-tree : (root : Option (List ℕ)) (change : Change) → IsIn root change → IsOfTree change
-one-of-tree root change lies = grind (arith, common_steps, no_output)
+one-of-tree root (ToOut byte) lies = no_output root lies
+one-of-tree root (ToErr byte) lies = no_output root lies
+one-of-tree root (Creates path) lies = tt
+one-of-tree root (ToFile path byte) lies = tt
+one-of-tree root (Removes path) lies = tt
 
 pub of-tree : (root : Option (List ℕ)) (changes : List Change) → LieIn root changes → AreOfTree changes
 of-tree root changes lie = each-so (IsIn root) IsOfTree changes (one-of-tree root) lie
@@ -133,7 +174,11 @@ of-tree root changes lie = each-so (IsIn root) IsOfTree changes (one-of-tree roo
 changes-at : (action : FileAction) (root : Option (List ℕ)) (nodes : Nodes) (device : FileState) (memory : List ℕ)
     → (acts action None device memory (option_map (observed_file nodes) device.path)).changes
     ≡ (acts action root device memory (option_map (observed_file nodes) device.path)).changes
-changes-at action root nodes device memory = grind (arith, common_steps)
+changes-at (Name at) root nodes device memory = refl
+changes-at (Read at length) root nodes device memory = refl
+changes-at (Write at length keep) root nodes device memory = refl
+changes-at (Stat at length) root nodes device memory = refl
+changes-at Delete root nodes device memory = refl
 
 pub changes-of : (action : FileAction) (root : Option (List ℕ)) (nodes : Nodes) (device : FileState) (memory : List ℕ) → Suits root device
     → changes_by action (Some nodes) device memory ≡ (file_outcome_of action root nodes device memory).changes
@@ -142,7 +187,12 @@ changes-of action root nodes device memory suits =
     ∙ ap (λ (outcome : FileOutcome). outcome.changes) (sym (outcome-same action root nodes device memory suits))
 
 unknown-lies : (action : FileAction) (root path : Option (List ℕ)) → IsTrue (suits root path) → LieIn root (changes_unknown action path)
-unknown-lies action root path lies = grind (arith, common_steps, in_part)
+unknown-lies (Name at) root path lies = tt
+unknown-lies (Read at length) root path lies = tt
+unknown-lies (Write at length keep) root None lies = tt
+unknown-lies (Write at length keep) root (Some path) lies = (in_part root path lies, tt)
+unknown-lies (Stat at length) root path lies = tt
+unknown-lies Delete root path lies = tt
 
 pub changes-lie : (action : FileAction) (root : Option (List ℕ)) (contents : Option Nodes) (device : FileState) (memory : List ℕ)
     → Suits root device
@@ -163,7 +213,11 @@ lie-none (change ∷ changes) lie = absurd (nowhere (path_changed change) lie.0)
 
 -- a device keeps its path
 left-at : (action : FileAction) (device : FileState) → (device_left action device).path ≡ device.path
-left-at action device = grind (arith, common_steps)
+left-at (Name at) device = refl
+left-at (Read at length) device = refl
+left-at (Write at length keep) device = refl
+left-at (Stat at length) device = refl
+left-at Delete device = refl
 
 pub path-kept : (action : FileAction) (device : FileState) (memory : List ℕ) (contents : Option Nodes) (result : Result ℕ FileStop)
     (device_now : FileState) (memory_now : List ℕ) → ActedOrStopped action device memory contents result device_now memory_now

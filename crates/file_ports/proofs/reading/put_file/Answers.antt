@@ -1,3 +1,4 @@
+use Rattle.std.proofs.lemmas.Grind.{common_steps}
 use Rattle.std.proofs.Common.{◌+◌, false, ◌++◌, ℕ, ap, take, drop, arith}
 use Rattle.std.proofs.lemmas.List.{length-take, length-append, take-append-le}
 use Rattle.uxn_io_traits.specs.EndedLaws.{looked-then}
@@ -27,3 +28,15 @@ returns-then-taken-eq0-clause-piece g c =
     let size = length-take c.min-wanted.result c.loop-done.chunk in
     known_end _ _ c.args.path.now c.args.memory.now c.loop-done.memory (take c.min-wanted.result c.loop-done.chunk) c.read.new.into c.args.place c.args.span.at c.loop-done.done c.in_ok-taken.taken c.args.span.count _
     (ap (λ (n : ℕ). c.args.place + n) c.from-in-loop-done.ensures) c.loop-done.invariant.tree.contents c.loop-done.invariant.contents c.in_ok-taken.ensures.answer c.if-taken-eq0.true (omega (arith, size)) c.loop-done.invariant.within
+
+pub returns-then-taken-eq0-clause-tree : goal.returns-then-taken-eq0-clause-tree
+returns-then-taken-eq0-clause-tree g c = grind (arith, common_steps)
+
+pub returns-in_err-taken-clause-tree : goal.returns-in_err-taken-clause-tree
+returns-in_err-taken-clause-tree g c = grind (arith, common_steps)
+
+pub loop-done-init : goal.loop-done-init
+loop-done-init g c = grind (arith, common_steps)
+
+pub returns-in_err-taken-clause-stopped : goal.returns-in_err-taken-clause-stopped
+returns-in_err-taken-clause-stopped g c = grind (arith, common_steps)
