@@ -6,10 +6,10 @@ use Rattle.std.proofs.lemmas.Simd.{map-map}
 use Rattle.std.proofs.lemmas.List.Concat.{flat_map-append}
 use Rattle.std.proofs.lemmas.List.Folds.{flat_map-map}
 use Rattle.uxn_io_traits.specs.ByteList.{ByteList}
-use Rattle.script_lines.specs.Held.{bytes_in}
-use Rattle.script_lines.specs.declared.values.Value.{Value}
+use Rattle.text_lines.specs.ScriptHeld.{bytes_in}
+use Rattle.text_lines.specs.declared.values.Value.{Value}
 use Rattle.play_script.specs.PlainText.{line_text, text_word, argument_words, clock_words, event_words, value_word, version_words, plain_lines, plain_text}
-use Rattle.script_lines.specs.Scripts.{ScriptView}
+use Rattle.text_lines.specs.Scripts.{ScriptView}
 
 -- words with a space before each but the first
 spaced : (first : List ℕ) (words : List (List ℕ)) → join_with_byte 32 (first ∷ words) ≡ first ++ flat_map (λ word. 32 ∷ word) words

@@ -12,15 +12,15 @@ use Rattle.std.proofs.lemmas.List.Sums.{AllPass-from_list_all, list_all-from_All
 use Rattle.uxn_limits.specs.declared.limits.TheConstants.{LAST_SECOND, LAST_OFFSET}
 use Rattle.hex.specs.Hex.{encode_lower, encode_with, lower_digits, IsBytes}
 use Rattle.hex.proofs.HexLemmas.{length-encode_with, decode_of-encode_lower, decode_sized-encode_lower}
-use Rattle.script_lines.specs.declared.values.Value.{Value}
-use Rattle.script_lines.specs.declared.values.Value.TheVariants.{Byte, Button, MouseButton, Player, Pixel, Turn, Seconds, Minutes}
-use Rattle.script_lines.specs.Limits.{AreValues, IsBit, IsValue}
+use Rattle.text_lines.specs.declared.values.Value.{Value}
+use Rattle.text_lines.specs.declared.values.Value.TheVariants.{Byte, Button, MouseButton, Player, Pixel, Turn, Seconds, Minutes}
+use Rattle.text_lines.specs.ScriptLimits.{AreValues, IsBit, IsValue}
 use Rattle.text_lines.specs.Named.{Named, value_named}
 use Rattle.text_lines.specs.Numbers.{is_digit, is_number, number_within, integer_within, byte_of, begins_with}
 use Rattle.text_lines.proofs.Numerals.{own}
 use Rattle.play_script.specs.PlainText.{text_word, name_in, value_word}
-use Rattle.script_lines.specs.Values.{text_of_values}
-use Rattle.script_lines.specs.declared.values.TheConstants.{BUTTONS, MOUSE_BUTTONS}
+use Rattle.text_lines.specs.ScriptValues.{text_of_values}
+use Rattle.text_lines.specs.declared.values.TheConstants.{BUTTONS, MOUSE_BUTTONS}
 use borrow.Author.Differences.{le_out, neg_is}
 
 -- a word has bytes, and none that parts words or lines

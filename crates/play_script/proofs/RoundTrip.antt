@@ -19,26 +19,26 @@ use Rattle.text_lines.specs.Numbers.{number_within, integer_within}
 use Rattle.text_lines.specs.Reading.{Line, given, made, each_line}
 use Rattle.text_lines.proofs.Cutting.{no_words, after_blank, prefix_word, not_lt}
 use Rattle.input_ports.specs.declared.Input.TheVariants.{Key, Down, Up, Mouse, Press, Release, Scroll, DownOf, UpOf}
-use Rattle.script_lines.specs.declared.script.Clock.{Clock}
-use Rattle.script_lines.specs.declared.script.Event.{Event}
-use Rattle.script_lines.specs.declared.script.Event.TheVariants.{Input, EndInput, Frame, Device, Shot, Expect}
-use Rattle.script_lines.specs.declared.script.ScriptKind.{ScriptKind}
-use Rattle.script_lines.specs.declared.script.Version.{Version}
-use Rattle.script_lines.specs.declared.script.Version.TheVariants.{First, Second}
-use Rattle.script_lines.specs.Limits.{IsEvent, IsScript, IsTime}
+use Rattle.text_lines.specs.declared.script.Clock.{Clock}
+use Rattle.text_lines.specs.declared.script.Event.{Event}
+use Rattle.text_lines.specs.declared.script.Event.TheVariants.{Input, EndInput, Frame, Device, Shot, Expect}
+use Rattle.text_lines.specs.declared.script.ScriptKind.{ScriptKind}
+use Rattle.text_lines.specs.declared.script.Version.{Version}
+use Rattle.text_lines.specs.declared.script.Version.TheVariants.{First, Second}
+use Rattle.text_lines.specs.ScriptLimits.{IsEvent, IsScript, IsTime}
 use Rattle.play_script.specs.PlainText.{text_word, value_word, event_words, clock_values, clock_words, argument_words, plain_lines}
 use Rattle.play_script.specs.PlainText.{line_text, plain_text}
-use Rattle.script_lines.specs.Rows.{Meaning, version, clock, arguments, event, rows_of, device_of, events_of_line, script_meaning_of, version_of}
-use Rattle.script_lines.specs.Rows.{clock_of_values, keys_of, expect_of, buttons_of, mouse_buttons_of, mouse_of, scroll_of, script_line_of}
-use Rattle.script_lines.specs.PlainEvents.{plain_event}
-use Rattle.script_lines.specs.Scripts.{ScriptView, script_with, arguments_in, events_in, script_fault, script_from, script_of, version_at, version_in}
-use Rattle.script_lines.specs.Values.{texts_of_values, one_or}
+use Rattle.text_lines.specs.ScriptRows.{Meaning, version, clock, arguments, event, rows_of, device_of, events_of_line, script_meaning_of, version_of}
+use Rattle.text_lines.specs.ScriptRows.{clock_of_values, keys_of, expect_of, buttons_of, mouse_buttons_of, mouse_of, scroll_of, script_line_of}
+use Rattle.text_lines.specs.PlainEvents.{plain_event}
+use Rattle.text_lines.specs.Scripts.{ScriptView, script_with, arguments_in, events_in, script_fault, script_from, script_of, version_at, version_in}
+use Rattle.text_lines.specs.ScriptValues.{texts_of_values, one_or}
 use Rattle.text_lines.specs.Named.{value_named}
 use Rattle.text_lines.specs.Rows.{keyword_of}
 use Rattle.play_script.proofs.PrintedWords.{is_plain, weaker, number_back, integer_back, pairs_back, text_back, plain_text_word, one_byte, byte_back}
 use Rattle.play_script.proofs.PrintedWords.{button_back, mouse_button_back, plain_values}
-use Rattle.script_lines.proofs.Stepping.{script_by, short_script}
-use Rattle.script_lines.proofs.Versions.{lift}
+use Rattle.text_lines.proofs.ScriptStepping.{script_by, short_script}
+use Rattle.text_lines.proofs.Versions.{lift}
 use borrow.Author.Differences.{le_out}
 
 -- lines of plain words

@@ -6,15 +6,15 @@ use Rattle.std.specs.Option.{unwrap_or, option_map}
 use Rattle.std.specs.Fmt.{signed_decimal}
 use Rattle.hex.specs.Hex.{encode_lower}
 use Rattle.text_lines.specs.Named.{Named}
-use Rattle.script_lines.specs.declared.script.Clock.{Clock}
-use Rattle.script_lines.specs.declared.script.Event.{Event}
-use Rattle.script_lines.specs.declared.script.Version.{Version}
-use Rattle.script_lines.specs.declared.script.Version.TheVariants.{First, Second}
-use Rattle.script_lines.specs.declared.values.Value.{Value}
-use Rattle.script_lines.specs.declared.values.Value.TheVariants.{Byte, Button, MouseButton, Player, Pixel, Turn, Seconds, Minutes}
-use Rattle.script_lines.specs.declared.values.TheConstants.{BUTTONS, MOUSE_BUTTONS}
-use Rattle.script_lines.specs.PlainEvents.{plain_event}
-use Rattle.script_lines.specs.Scripts.{ScriptView}
+use Rattle.text_lines.specs.declared.script.Clock.{Clock}
+use Rattle.text_lines.specs.declared.script.Event.{Event}
+use Rattle.text_lines.specs.declared.script.Version.{Version}
+use Rattle.text_lines.specs.declared.script.Version.TheVariants.{First, Second}
+use Rattle.text_lines.specs.declared.values.Value.{Value}
+use Rattle.text_lines.specs.declared.values.Value.TheVariants.{Byte, Button, MouseButton, Player, Pixel, Turn, Seconds, Minutes}
+use Rattle.text_lines.specs.declared.values.TheConstants.{BUTTONS, MOUSE_BUTTONS}
+use Rattle.text_lines.specs.PlainEvents.{plain_event}
+use Rattle.text_lines.specs.Scripts.{ScriptView}
 
 -- bytes as a text word: pairs of lowercase hexadecimal digits, or `"` alone where there are none
 abbrev pub text_word : List ℕ → List ℕ

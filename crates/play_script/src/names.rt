@@ -1,11 +1,10 @@
 //! The names of buttons.
 
 ghost use Rattle.std.specs.Prelude.{◌≡◌, find, option_copied, ◌==◌};
-ghost use Rattle.script_lines.specs.declared.values.TheConstants.{BUTTONS, MOUSE_BUTTONS};
+ghost use Rattle.text_lines.specs.declared.values.TheConstants.{BUTTONS, MOUSE_BUTTONS};
 ghost use Rattle.play_script.specs.PlainText.{name_in};
 
-use script_lines::{BUTTONS, MOUSE_BUTTONS};
-use text_lines::Named;
+use text_lines::{BUTTONS, MOUSE_BUTTONS, Named};
 
 // The name of the controller's button with this bit, or nothing.
 #[tactic(auto, unfolding(crate::specs::PlainText::name_in))]

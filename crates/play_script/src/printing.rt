@@ -5,19 +5,19 @@ ghost use Rattle.std.specs.List.{flat_map};
 ghost use Rattle.std.specs.Fmt.{signed_decimal};
 ghost use Rattle.uxn_limits.specs.declared.limits.TheConstants.{TEXT_LIMIT};
 ghost use Rattle.hex.specs.Hex.{encode_lower};
-ghost use Rattle.script_lines.specs.Held.{bytes_in};
-ghost use Rattle.script_lines.specs.Limits.{IsScript};
-ghost use Rattle.script_lines.specs.PlainEvents.{plain_event};
+ghost use Rattle.text_lines.specs.ScriptHeld.{bytes_in};
+ghost use Rattle.text_lines.specs.ScriptLimits.{IsScript};
+ghost use Rattle.text_lines.specs.PlainEvents.{plain_event};
 ghost use Rattle.play_script.specs.PlainText.{argument_words, clock_words, event_words, line_text, plain_text};
 ghost use Rattle.play_script.specs.PlainText.{text_word, value_word, version_words};
-ghost use Rattle.script_lines.specs.Scripts.{ScriptView, script_of};
-ghost use Rattle.script_lines.specs.declared.script.Event.TheVariants.{Device};
-ghost use Rattle.script_lines.specs.declared.script.Version.TheVariants.{First, Second};
+ghost use Rattle.text_lines.specs.Scripts.{ScriptView, script_of};
+ghost use Rattle.text_lines.specs.declared.script.Event.TheVariants.{Device};
+ghost use Rattle.text_lines.specs.declared.script.Version.TheVariants.{First, Second};
 
 use crate::names::{button_name, mouse_button_name};
 use input_ports::Input;
-use script_lines::Value::{self, Button, Byte, Minutes, MouseButton, Pixel, Player, Seconds, Turn};
-use script_lines::{Clock, Event, Script, Version};
+use text_lines::Value::{self, Button, Byte, Minutes, MouseButton, Pixel, Player, Seconds, Turn};
+use text_lines::{Clock, Event, Script, Version};
 use std::alloc::{AllocError, Global};
 use uxn_io_traits::{Bytes, decimal};
 

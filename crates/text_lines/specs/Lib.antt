@@ -3,3 +3,16 @@ pub mod Named
 pub mod Numbers
 pub mod Rows
 pub mod Reading
+pub mod ScriptHeld
+pub mod ScriptValues
+pub mod ScriptRows
+pub mod Scripts
+pub mod PlainEvents
+pub mod ScriptGathered
+pub mod ScriptLimits
+pub mod ScriptKinds
+pub mod SetupKinds
+pub mod SetupLines
+pub mod Setups
+pub mod SetupLimits
+pub mod SetupGathered

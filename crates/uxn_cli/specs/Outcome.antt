@@ -11,7 +11,7 @@ use Rattle.uxn_task_files.specs.declared.refusal.Refusal.{Refusal}
 use Rattle.uxn_task_files.specs.Statuses.{status_of}
 use Rattle.uxn_task_files.specs.Lines.{refusal_line}
 use Rattle.vector_loop.specs.Trace.{Trace}
-use Rattle.script_lines.specs.declared.script.Version.{Version}
+use Rattle.text_lines.specs.declared.script.Version.{Version}
 use Rattle.uxn_task_files.specs.Writing.{filling_all, writing}
 use Rattle.uxn_cli.specs.RunJob.{RunJob, job_outputs, trace_of, report_of, log_texts}
 use Rattle.uxn_line.specs.Streams.{LineJob, run_of_machine, stream, exit_code_at}

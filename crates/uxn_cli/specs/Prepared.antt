@@ -6,7 +6,7 @@ use Rattle.uxn_io_traits.specs.Inquires.{Inquires}
 use Rattle.uxn_io_traits.specs.Files.{Nodes}
 use Rattle.uxn_io_traits.specs.State.{TreeState, SinkState}
 use Rattle.uxn_opcodes.specs.Rule.{new_core}
-use Rattle.script_lines.specs.Scripts.{ScriptView}
+use Rattle.text_lines.specs.Scripts.{ScriptView}
 use Rattle.varvara_bus.specs.State.{DevicesRepresent, new_state}
 use Rattle.varvara_bus.specs.declared.devices.Devices.{Devices}
 use Rattle.uxn_arguments.specs.Options.{run_outputs}

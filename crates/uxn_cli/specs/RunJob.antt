@@ -5,9 +5,9 @@ use Rattle.uxn_io_traits.specs.Files.{Nodes}
 use Rattle.file_ports.specs.RootPart.{below, parent_is_folder}
 use Rattle.uxn_opcodes.specs.declared.Core.{Core}
 use Rattle.uxn_opcodes.specs.Rule.{new_core}
-use Rattle.script_lines.specs.declared.script.Version.{Version}
-use Rattle.script_lines.specs.declared.script.Version.TheVariants.{First, Second}
-use Rattle.script_lines.specs.Scripts.{ScriptView}
+use Rattle.text_lines.specs.declared.script.Version.{Version}
+use Rattle.text_lines.specs.declared.script.Version.TheVariants.{First, Second}
+use Rattle.text_lines.specs.Scripts.{ScriptView}
 use Rattle.varvara_bus.specs.State.{DeviceState, new_state}
 use Rattle.vector_loop.specs.declared.tally.Tally.{Tally}
 use Rattle.vector_loop.specs.State.{State, new_tally}

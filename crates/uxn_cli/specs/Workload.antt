@@ -2,7 +2,7 @@
 use Rattle.std.specs.Prelude.{◌≡◌, ℕ, List, length}
 use Rattle.uxn_limits.specs.declared.limits.TheConstants.{USUAL_BUDGET}
 use Rattle.uxn_opcodes.specs.declared.Core.{Core}
-use Rattle.script_lines.specs.Scripts.{ScriptView}
+use Rattle.text_lines.specs.Scripts.{ScriptView}
 use Rattle.vector_loop.specs.Trace.{Trace}
 use Rattle.uxn_io_traits.specs.Outside.{put_by}
 use Rattle.uxn_line.specs.Places.{no_outputs}

@@ -16,7 +16,7 @@ ghost use Rattle.uxn_cli.specs.Verdict.{accepted_summary};
 use super::host::Host;
 use super::machine::new_machine;
 use super::running::{RunEnd, Settings, run_machine};
-use script_lines::Script;
+use text_lines::Script;
 use std::alloc::{AllocError, Global};
 use tal_include::SourceFault;
 use tal_rom::assemble;

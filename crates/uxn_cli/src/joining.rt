@@ -1,12 +1,12 @@
 //! What `line` does: the machines of a setup are run in a line.
 ghost use Rattle.std.specs.Prelude.{length, is_err};
 ghost use Rattle.std.specs.List.{All};
-ghost use Rattle.setup_lines.specs.Limits.{AreTurns};
+ghost use Rattle.text_lines.specs.SetupLimits.{AreTurns};
 ghost use Rattle.uxn_task_files.specs.Puts.{Puts};
 ghost use Rattle.uxn_cli.specs.Joined.{IsRunnable, LineGoesOn, LineHasDone, job_of_joined};
 ghost use Rattle.uxn_cli.specs.Outcome.{line_bytes, line_exit};
 
-use setup_lines::Turns;
+use text_lines::Turns;
 use std::alloc::Global;
 use uxn_io_traits::{Failed, Sink};
 use uxn_line::Line;

@@ -5,7 +5,7 @@ ghost use Rattle.uxn_opcodes.specs.Rule.{new_core};
 ghost use Rattle.uxn_undo.specs.Row.{IsMachine};
 ghost use Rattle.uxn_cli.specs.Prepared.{AreNew};
 
-use script_lines::Script;
+use text_lines::Script;
 use std::alloc::{AllocError, Global};
 use uxn_io_traits::Path;
 use uxn_line::clock_of;

@@ -4,7 +4,7 @@ ghost use Rattle.arrayvec.specs.ArrayVec.{array_vec_len};
 ghost use Rattle.uxn_cli.specs.RunJob.{common_lines, report_line, report_text};
 
 use arrayvec::ArrayVec;
-use script_lines::Version;
+use text_lines::Version;
 use uxn_io_traits::decimal;
 use vector_loop::Tally;
 

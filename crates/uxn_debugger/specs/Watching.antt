@@ -11,7 +11,7 @@ use Rattle.vector_loop.specs.Run.{run}
 use Rattle.vector_loop.specs.State.{State}
 use Rattle.vector_loop.specs.Watch.{Page, page_in, moment_of, shown_all}
 use Rattle.vector_loop.specs.declared.output.Outputs.{Outputs}
-use Rattle.script_lines.specs.Scripts.{ScriptView}
+use Rattle.text_lines.specs.Scripts.{ScriptView}
 use Rattle.uxn_undo.specs.Row.{IsMachine}
 use Rattle.uxn_undo.specs.Kept.{Kept, kept_at, holding, byte_back}
 use Rattle.debug_commands.specs.declared.command.DebugCommand.{DebugCommand}

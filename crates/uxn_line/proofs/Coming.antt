@@ -2,7 +2,7 @@
 use Rattle.uxn_line.proofs.Common.{common_steps, is_none, slice_get, list_all, and_parts, is_of_console, ◌≡◌, ◌≢◌, ℕ, suc, ◌↔◌, true, List, [], ◌∷◌}
 use Rattle.uxn_line.proofs.Common.{◌++◌, drop, map, refl, inl, inr, ap, ◌∙◌, arith, Option, PendingInput, OfEvent, ConsoleByte, pending_inputs_of}
 use Rattle.uxn_line.proofs.Common.{AreForConsole, IsForConsole, LineJob, AreOfConsole, script_at, stream, next_pending, inputs, AreToCome}
-use Rattle.script_lines.specs.declared.script.Event.{Event}
+use Rattle.text_lines.specs.declared.script.Event.{Event}
 use Rattle.vector_loop.specs.PendingInputs.{arguments_given, of_argument}
 
 -- all that the script of a line gives is for the console

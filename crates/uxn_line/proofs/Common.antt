@@ -1,7 +1,7 @@
 -- The names that most proofs of this crate cite, passed on from one place. Declares nothing.
 pub use Rattle.circular_buffer.proofs.Places.{slice_get-last, slice_get-push, slice_get-set_other, slice_get-set_same, slice_get-some}
 pub use Rattle.circular_buffer.specs.Buffer.{Buffer, buffer}
-pub use Rattle.script_lines.specs.Held.{bytes_in}
+pub use Rattle.text_lines.specs.ScriptHeld.{bytes_in}
 pub use Rattle.std.proofs.Common.{Bool, List, [], add-one, ap, append-nil, append_assoc, arith, cond, drop, false, get_or, inl, inr, length}
 pub use Rattle.std.proofs.Common.{length-append, map, pos, refl, rules, subst, suc, sym, true, zero, ℕ, ◌*◌, ◌++◌, ◌+◌, ◌-◌, ◌<◌, ◌==◌}
 pub use Rattle.std.proofs.Common.{◌↔◌, ◌∙◌, ◌∷◌, ◌≡◌, ◌≢◌, ◌≤◌}

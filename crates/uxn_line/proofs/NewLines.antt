@@ -4,8 +4,8 @@ use Rattle.uxn_line.proofs.Common.{zero, suc, ◌<◌, inl, inr, Bool, true, fal
 use Rattle.uxn_line.proofs.Common.{slice_get, cases_eq, buffer, ByteList, bytes_in, Member, LineJob, script_at, rom_at, first_place, stream, MemberAt}
 use Rattle.uxn_line.proofs.Common.{none_turned, RingBefore, InLine, inputs, Result, Ok, Err}
 use Rattle.std.specs.Prelude.{IfOk}
-use Rattle.script_lines.specs.Scripts.{ScriptView}
-use Rattle.script_lines.specs.declared.script.Clock.{Clock}
+use Rattle.text_lines.specs.Scripts.{ScriptView}
+use Rattle.text_lines.specs.declared.script.Clock.{Clock}
 use Rattle.uxn_line.proofs.Coming.{all-inputs, inputs-some}
 
 -- nothing was given yet

@@ -4,9 +4,9 @@ use Rattle.std.specs.Prelude.{Bool, true, false, List, [], ◌∷◌, ◌++◌, 
 use Rattle.std.specs.Prelude.{None, slice_get}
 use Rattle.uxn_limits.specs.declared.ports.TheConstants.{SYSTEM_STATE}
 use Rattle.circular_buffer.specs.Buffer.{buffer}
-use Rattle.script_lines.specs.declared.script.Event.TheVariants.{Input, EndInput}
-use Rattle.script_lines.specs.declared.script.Clock.{Clock}
-use Rattle.script_lines.specs.Scripts.{ScriptView}
+use Rattle.text_lines.specs.declared.script.Event.TheVariants.{Input, EndInput}
+use Rattle.text_lines.specs.declared.script.Clock.{Clock}
+use Rattle.text_lines.specs.Scripts.{ScriptView}
 use Rattle.vector_loop.specs.PendingInputs.{pending_inputs_of}
 use Rattle.varvara_bus.specs.History.{stored}
 use Rattle.uxn_line.specs.declared.member.Member.{Member}

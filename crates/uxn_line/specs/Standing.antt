@@ -1,9 +1,9 @@
 -- Which numbers of turns a line of machines represents (profile).
 use Rattle.std.specs.Prelude.{◌≡◌, ℕ, zero, suc, ◌==◌, ◌≤◌, ◌⊎◌, if◌then◌else◌, Bool, true}
 use Rattle.std.specs.Prelude.{false, List, [], ◌∷◌, ◌++◌, length, map, slice_get, Some}
-use Rattle.script_lines.specs.declared.script.Event.TheVariants.{Input, EndInput}
-use Rattle.script_lines.specs.Held.{bytes_in}
-use Rattle.script_lines.specs.Scripts.{ScriptView}
+use Rattle.text_lines.specs.declared.script.Event.TheVariants.{Input, EndInput}
+use Rattle.text_lines.specs.ScriptHeld.{bytes_in}
+use Rattle.text_lines.specs.Scripts.{ScriptView}
 use Rattle.uxn_io_traits.specs.ByteList.{ByteList}
 use Rattle.uxn_line.specs.declared.line.Line.{Line}
 use Rattle.uxn_line.specs.declared.member.Member.{Member}

@@ -5,11 +5,11 @@ use Rattle.std.specs.Prelude.{slice_index_or, Bool, false, IsTrue}
 use Rattle.std.specs.List.{list_all}
 use Rattle.uxn_limits.specs.declared.ports.TheConstants.{SYSTEM_STATE}
 use Rattle.uxn_opcodes.specs.Rule.{new_core}
-use Rattle.script_lines.specs.declared.script.Clock.{Clock}
-use Rattle.script_lines.specs.declared.script.Event.{Event}
-use Rattle.script_lines.specs.declared.script.Event.TheVariants.{Input, EndInput}
-use Rattle.script_lines.specs.declared.script.Version.TheVariants.{First}
-use Rattle.script_lines.specs.Scripts.{ScriptView, script_with}
+use Rattle.text_lines.specs.declared.script.Clock.{Clock}
+use Rattle.text_lines.specs.declared.script.Event.{Event}
+use Rattle.text_lines.specs.declared.script.Event.TheVariants.{Input, EndInput}
+use Rattle.text_lines.specs.declared.script.Version.TheVariants.{First}
+use Rattle.text_lines.specs.Scripts.{ScriptView, script_with}
 use Rattle.system_port.specs.DebugText.{exit_code_of}
 use Rattle.varvara_bus.specs.History.{stored}
 use Rattle.varvara_bus.specs.declared.time.Clock.{Clock as BusClock}

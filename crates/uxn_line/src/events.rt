@@ -3,7 +3,7 @@ ghost use Rattle.std.specs.Prelude.{◌≡◌};
 ghost use Rattle.std.specs.List.{list_all};
 ghost use Rattle.uxn_line.specs.Streams.{is_of_console};
 
-use script_lines::Event;
+use text_lines::Event;
 use vector_loop::PendingInput;
 
 /// Whether all events are of the console: inputs and ends of the input.

@@ -14,4 +14,4 @@ pub use law::{every_order_gives_the_streams, turns_are_the_run};
 pub use line::{Line, Moved};
 pub use machine::{Machine, clock_of};
 pub use output::next_byte;
-pub use setup_lines::{Setup, SetupKind, SetupStop, Turns, read_setup};
+pub use text_lines::{Setup, SetupKind, SetupStop, Turns, read_setup};

@@ -4,9 +4,9 @@ ghost use Rattle.uxn_limits.specs.declared.ports.TheConstants.{SYSTEM_STATE, CON
 ghost use Rattle.uxn_memory.specs.Bytes.{largest_rom};
 ghost use Rattle.uxn_opcodes.specs.Rule.{opcode_at};
 ghost use Rattle.console_port.specs.Console.{event_byte};
-ghost use Rattle.script_lines.specs.Held.{bytes_in};
-ghost use Rattle.script_lines.specs.Limits.{IsTime};
-ghost use Rattle.script_lines.specs.Scripts.{ScriptView};
+ghost use Rattle.text_lines.specs.ScriptHeld.{bytes_in};
+ghost use Rattle.text_lines.specs.ScriptLimits.{IsTime};
+ghost use Rattle.text_lines.specs.Scripts.{ScriptView};
 ghost use Rattle.uxn_line.specs.Streams.{clock_by, first_place};
 ghost use Rattle.varvara_bus.specs.History.{stored, stored_short};
 ghost use Rattle.varvara_bus.specs.State.{DeviceState, storing};
@@ -20,7 +20,7 @@ ghost use Rattle.uxn_line.specs.Places.{turn, put_in, IsForConsole};
 ghost use Rattle.uxn_line.specs.Machines.{Rests, MachineHasDone, MachineRepresents, handed_on};
 
 use console_port::EventKind;
-use script_lines::Clock as ScriptClock;
+use text_lines::Clock as ScriptClock;
 use std::alloc::{AllocError, Global};
 use uxn_io_traits::{Bytes, NoSink, NoTree};
 use uxn_limits::ports::{CONSOLE_VECTOR, SYSTEM_STATE};

@@ -2,9 +2,9 @@
 ghost use Rattle.std.specs.Prelude.{◌≡◌, ◌↔◌, ◌++◌, ◌∷◌, [], ℕ, ◌<◌, ◌≤◌, true, false, IfOk, drop, is_none, length, slice_get};
 ghost use Rattle.circular_buffer.specs.Buffer.{buffer};
 ghost use Rattle.uxn_memory.specs.Bytes.{largest_rom};
-ghost use Rattle.script_lines.specs.Held.{bytes_in};
-ghost use Rattle.script_lines.specs.Limits.{IsTime};
-ghost use Rattle.script_lines.specs.Scripts.{ScriptView};
+ghost use Rattle.text_lines.specs.ScriptHeld.{bytes_in};
+ghost use Rattle.text_lines.specs.ScriptLimits.{IsTime};
+ghost use Rattle.text_lines.specs.Scripts.{ScriptView};
 ghost use Rattle.vector_loop.specs.Places.{Place, PlaceHasEnded};
 ghost use Rattle.uxn_line.specs.Streams.{first_place};
 ghost use Rattle.uxn_line.specs.Machines.{MachineRepresents};
@@ -14,7 +14,7 @@ ghost use Rattle.uxn_line.specs.Work.{work};
 
 use crate::machine::Machine;
 use circular_buffer::HeapCircularBuffer;
-use script_lines::{Clock, Event};
+use text_lines::{Clock, Event};
 use std::alloc::{AllocError, Global};
 use uxn_io_traits::Bytes;
 use vector_loop::PendingInput;

@@ -7,8 +7,8 @@ use Rattle.std.specs.List.{list_any}
 use Rattle.std.specs.Str.{bytes_eq}
 use Rattle.debug_commands.specs.declared.command.DebugCommand.{DebugCommand}
 use Rattle.debug_commands.specs.Reading.{commands_of_text}
-use Rattle.script_lines.specs.Scripts.{ScriptView, script_of as script_in}
-use Rattle.setup_lines.specs.Setups.{SetupView, setup_of as setup_in}
+use Rattle.text_lines.specs.Scripts.{ScriptView, script_of as script_in}
+use Rattle.text_lines.specs.Setups.{SetupView, setup_of as setup_in}
 use Rattle.tal_listing.specs.Disassembly.{disassembly}
 use Rattle.tal_listing.specs.Listing.{listing_of}
 use Rattle.tal_rom.specs.Assembly.{rom_of, layout}

@@ -1,6 +1,6 @@
 -- What the code holds of inputs that are accepted, as the definitions see it.
 use Rattle.std.specs.Prelude.{◌≡◌, ℕ, ◌≤◌, List, length, All}
-use Rattle.script_lines.specs.Held.{bytes_in}
+use Rattle.text_lines.specs.ScriptHeld.{bytes_in}
 use Rattle.tal_include.specs.Sources.{SourceView}
 use Rattle.uxn_io_traits.specs.ByteList.{ByteList}
 use Rattle.uxn_memory.specs.Bytes.{largest_rom}

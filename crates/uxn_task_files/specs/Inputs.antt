@@ -1,8 +1,8 @@
 -- The files that a task reads, by their kinds: what each may hold at most, why a longer one is refused, and what is asked for its bytes.
 use Rattle.std.specs.Prelude.{ℕ, List, [], None, Result, Ok, Err}
 use Rattle.debug_commands.specs.declared.command.CommandKind.TheVariants.{LongCommands}
-use Rattle.script_lines.specs.declared.script.ScriptKind.TheVariants.{LongScript}
-use Rattle.setup_lines.specs.declared.setup.SetupKind.TheVariants.{LongSetup}
+use Rattle.text_lines.specs.declared.script.ScriptKind.TheVariants.{LongScript}
+use Rattle.text_lines.specs.declared.setup.SetupKind.TheVariants.{LongSetup}
 use Rattle.tal_include.specs.declared.faults.IncludeKind.TheVariants.{Words}
 use Rattle.tal_rom.specs.Rom.{rom_limit}
 use Rattle.uxn_limits.specs.declared.limits.TheConstants.{TEXT_LIMIT, SYMBOLS_LIMIT}

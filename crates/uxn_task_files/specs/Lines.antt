@@ -2,9 +2,9 @@
 use Rattle.std.specs.Prelude.{ℕ, List, [], ◌∷◌, ◌++◌, codes, decimal}
 use Rattle.tal_include.specs.Lines.{message_of}
 use Rattle.tal_symbols.specs.Answers.{symbol_kind_name}
-use Rattle.script_lines.specs.Kinds.{script_kind_name}
+use Rattle.text_lines.specs.ScriptKinds.{script_kind_name}
 use Rattle.debug_commands.specs.Kinds.{command_kind_name}
-use Rattle.setup_lines.specs.Kinds.{setup_kind_name}
+use Rattle.text_lines.specs.SetupKinds.{setup_kind_name}
 use Rattle.uxn_task_files.specs.declared.refusal.Refusal.{Refusal}
 use Rattle.uxn_task_files.specs.declared.refusal.Refusal.TheVariants.{NotUnderstood, NoPath, NoOutput, Missing, Faulty, LongRom}
 use Rattle.uxn_task_files.specs.declared.refusal.Refusal.TheVariants.{BadSymbols, BadScript, BadCommands, BadSetup, OtherEvents}

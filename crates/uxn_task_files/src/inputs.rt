@@ -6,8 +6,7 @@ ghost use Rattle.uxn_task_files.specs.Inputs.{text_of, size_rule, kind_text, too
 
 use super::refusal::Refusal;
 use debug_commands::CommandKind;
-use script_lines::ScriptKind;
-use setup_lines::SetupKind;
+use text_lines::{ScriptKind, SetupKind};
 use std::alloc::Global;
 use tal_include::{IncludeKind, SourceFault};
 use tal_symbols::SymbolKind;

@@ -2,7 +2,7 @@
 ghost use Rattle.std.specs.Prelude.{[], ◌≡◌, ◌≤◌, length, IfOk};
 ghost use Rattle.std.specs.List.{All};
 ghost use Rattle.uxn_memory.specs.Bytes.{largest_rom};
-ghost use Rattle.script_lines.specs.Held.{bytes_in};
+ghost use Rattle.text_lines.specs.ScriptHeld.{bytes_in};
 ghost use Rattle.uxn_io_traits.specs.Inquires.{Inquires, Says};
 ghost use Rattle.uxn_io_traits.specs.Inquiry.{gather};
 ghost use Rattle.uxn_task_files.specs.Accepted.{machine_of, machines_of, said_setup, setup_of};
@@ -13,8 +13,7 @@ use super::program::Program;
 use super::refusal::Refusal;
 use super::scripts::accept_script;
 use super::sources::accept_source;
-use script_lines::Script;
-use setup_lines::{Setup, SetupStop, read_setup};
+use text_lines::{Script, Setup, SetupStop, read_setup};
 use std::alloc::Global;
 use uxn_io_traits::{Bytes, Halt, Path, Tree};
 

@@ -7,8 +7,7 @@ ghost use Rattle.uxn_task_files.specs.Blame.{as_step};
 ghost use Rattle.uxn_task_files.specs.Puts.{Puts};
 
 use debug_commands::CommandKind;
-use script_lines::ScriptKind;
-use setup_lines::SetupKind;
+use text_lines::{ScriptKind, SetupKind};
 use std::alloc::{AllocError, Global};
 use tal_include::SourceFault;
 use tal_symbols::SymbolKind;

@@ -11,7 +11,7 @@ use super::refusal::Refusal;
 use super::scripts::accept_script;
 use super::symbols::accept_symbols;
 use debug_commands::DebugCommand;
-use script_lines::Script;
+use text_lines::Script;
 use std::alloc::Global;
 use uxn_arguments::{DebugTask, RunTask};
 use uxn_io_traits::{Halt, Path, Tree};

@@ -1,6 +1,6 @@
 -- The moments of a run, in order: each differs from the next one only within the bytes that are kept for it.
 use Rattle.std.specs.Prelude.{ℕ, List, [], ◌∷◌, map, reverse, take, drop}
-use Rattle.script_lines.specs.Scripts.{ScriptView}
+use Rattle.text_lines.specs.Scripts.{ScriptView}
 use Rattle.vector_loop.specs.declared.output.Outputs.{Outputs}
 use Rattle.vector_loop.specs.State.{State}
 use Rattle.vector_loop.specs.Run.{run}

@@ -4,7 +4,7 @@ pub use Rattle.std.proofs.Common.{rules, slice_index_or, suc, sym, take, true, â
 pub use Rattle.std.specs.List.{flat_map, range_with_len}
 pub use Rattle.std.specs.Prelude.{Result}
 pub use Rattle.audio_mixer.specs.Laws.{sample_short}
-pub use Rattle.script_lines.specs.declared.script.Event.{Event}
+pub use Rattle.text_lines.specs.declared.script.Event.{Event}
 pub use Rattle.screen_layers.specs.Pictures.{picture_row_of}
 pub use Rattle.uxn_io_traits.specs.FaultLaws.{ledger-same, ledger-then}
 pub use Rattle.uxn_io_traits.specs.Faults.{Ledger}

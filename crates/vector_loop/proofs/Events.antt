@@ -7,7 +7,7 @@ use Rattle.input_ports.specs.declared.Input.{Input}
 use Rattle.input_ports.specs.Page.{stores_after, stores_of, vector_of}
 use Rattle.varvara_bus.specs.History.{stored_short}
 use Rattle.varvara_bus.specs.ReadsPort.{read_of}
-use Rattle.script_lines.specs.declared.script.Event.TheVariants.{Expect}
+use Rattle.text_lines.specs.declared.script.Event.TheVariants.{Expect}
 use Rattle.vector_loop.specs.State.{counting_expect, with_counted}
 use Rattle.vector_loop.specs.Event.{give, happens, vector_at}
 use Rattle.vector_loop.specs.Answers.{both_counts}

@@ -4,7 +4,7 @@ use Rattle.vector_loop.proofs.Common.{Event, List, OfEvent, [], ap, arguments_gi
 use Rattle.vector_loop.proofs.Common.{◌++◌, ◌-◌, ◌<◌, ◌∙◌, ◌∷◌, ◌≡◌, ◌≢◌, ◌≤◌, rules}
 use Rattle.std.proofs.Math.Seq.{take-length}
 use Rattle.std.proofs.lemmas.List.{length-map}
-use Rattle.script_lines.specs.Held.{bytes_in}
+use Rattle.text_lines.specs.ScriptHeld.{bytes_in}
 use Rattle.uxn_io_traits.specs.ByteList.{ByteList}
 use Rattle.vector_loop.specs.declared.pending_input.PendingInput.TheVariants.{OfArgument}
 use Rattle.vector_loop.specs.PendingInputs.{kind_before, of_argument, pending_left}

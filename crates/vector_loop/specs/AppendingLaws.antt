@@ -5,7 +5,7 @@ use Rattle.uxn_io_traits.specs.AtPath.{Spares, Adds}
 use Rattle.uxn_io_traits.specs.EachLaws.{each-append, each-map, each-so}
 use Rattle.uxn_io_traits.specs.Outside.{Change, ToFile}
 use Rattle.uxn_io_traits.specs.PrefixLaws.{spares-adds}
-use Rattle.script_lines.specs.Scripts.{ScriptView}
+use Rattle.text_lines.specs.Scripts.{ScriptView}
 use Rattle.varvara_bus.specs.Touching.{IsSeparateFrom, instruction-spares}
 use Rattle.vector_loop.specs.declared.output.Outputs.{Outputs}
 use Rattle.vector_loop.specs.State.{State}

@@ -1,6 +1,6 @@
 -- The moments of a run, counted by the instructions run before each.
 use Rattle.std.specs.Prelude.{◌≡◌, ℕ, ◌+◌, List, [], ◌∷◌, length}
-use Rattle.script_lines.specs.Scripts.{ScriptView}
+use Rattle.text_lines.specs.Scripts.{ScriptView}
 use Rattle.vector_loop.specs.declared.output.Outputs.{Outputs}
 use Rattle.vector_loop.specs.State.{State}
 use Rattle.vector_loop.specs.Trace.{Trace}

@@ -2,9 +2,9 @@
 use Rattle.std.specs.Prelude.{ℕ, ◌==◌, if◌then◌else◌, List, [], ◌∷◌, ◌++◌, length, map, Option, Some, None}
 use Rattle.console_port.specs.declared.EventKind.{EventKind}
 use Rattle.console_port.specs.declared.EventKind.TheVariants as event_kind
-use Rattle.script_lines.specs.Scripts.{ScriptView}
-use Rattle.script_lines.specs.declared.script.Event.{Event}
-use Rattle.script_lines.specs.declared.script.Event.TheVariants.{Input, EndInput}
+use Rattle.text_lines.specs.Scripts.{ScriptView}
+use Rattle.text_lines.specs.declared.script.Event.{Event}
+use Rattle.text_lines.specs.declared.script.Event.TheVariants.{Input, EndInput}
 use Rattle.vector_loop.specs.declared.pending_input.PendingInput.{PendingInput}
 use Rattle.vector_loop.specs.declared.pending_input.PendingInput.TheVariants.{OfArgument, OfEvent}
 use Rattle.vector_loop.specs.declared.output.Outputs.{Outputs}

@@ -2,7 +2,7 @@
 use Rattle.std.specs.Prelude.{◌≡◌, ℕ, zero, suc, ◌==◌, ◌≤◌, true, List, [], ◌∷◌, length, ◌⊎◌}
 use Rattle.std.specs.Prelude.{if◌then◌else◌, Option, Some, None}
 use Rattle.console_port.specs.Console.{event_byte}
-use Rattle.script_lines.specs.Scripts.{ScriptView}
+use Rattle.text_lines.specs.Scripts.{ScriptView}
 use Rattle.uxn_limits.specs.declared.ports.TheConstants.{CONSOLE_VECTOR, CONSOLE_READ, CONSOLE_TYPE}
 use Rattle.varvara_bus.specs.History.{made_ready, stored_short}
 use Rattle.vector_loop.specs.declared.pending_input.PendingInput.{PendingInput}

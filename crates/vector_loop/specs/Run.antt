@@ -1,6 +1,6 @@
 -- The reference run of a script: the reset vector, then what the script gives, and no more once the state is not 0.
 use Rattle.std.specs.Prelude.{ℕ, length}
-use Rattle.script_lines.specs.Scripts.{ScriptView}
+use Rattle.text_lines.specs.Scripts.{ScriptView}
 use Rattle.varvara_bus.specs.History.{made_ready}
 use Rattle.vector_loop.specs.declared.output.Outputs.{Outputs}
 use Rattle.vector_loop.specs.State.{State, with_stored}

@@ -8,9 +8,9 @@ use Rattle.audio_mixer.specs.Sounds.{frame_of, endings}
 use Rattle.console_port.specs.Console.{event_byte}
 use Rattle.console_port.specs.declared.EventKind.{EventKind}
 use Rattle.console_port.specs.declared.EventKind.TheVariants as event_kind
-use Rattle.script_lines.specs.declared.script.Event.{Event}
-use Rattle.script_lines.specs.declared.script.Event.TheVariants.{Input, EndInput, Frame, Device, Shot, Expect}
-use Rattle.script_lines.specs.Scripts.{ScriptView}
+use Rattle.text_lines.specs.declared.script.Event.{Event}
+use Rattle.text_lines.specs.declared.script.Event.TheVariants.{Input, EndInput, Frame, Device, Shot, Expect}
+use Rattle.text_lines.specs.Scripts.{ScriptView}
 use Rattle.uxn_limits.specs.declared.ports.TheConstants.{CONSOLE_VECTOR, CONSOLE_READ, CONSOLE_TYPE, SCREEN_VECTOR, AUDIO_VECTOR, VOICE_PORTS}
 use Rattle.varvara_bus.specs.History.{Store, made_ready, stored, stored_short}
 use Rattle.varvara_bus.specs.ReadsPort.{read_of}

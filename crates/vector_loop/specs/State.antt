@@ -4,8 +4,8 @@ use Rattle.uxn_limits.specs.declared.ports.TheConstants.{SYSTEM_STATE}
 use Rattle.uxn_opcodes.specs.declared.Core.{Core}
 use Rattle.varvara_bus.specs.History.{Store, stored}
 use Rattle.varvara_bus.specs.State.{DeviceState, storing, next_frame, rendered, screen_refreshed}
-use Rattle.script_lines.specs.declared.script.Event.{Event}
-use Rattle.script_lines.specs.declared.script.Event.TheVariants.{Frame, Shot}
+use Rattle.text_lines.specs.declared.script.Event.{Event}
+use Rattle.text_lines.specs.declared.script.Event.TheVariants.{Frame, Shot}
 use Rattle.vector_loop.specs.declared.tally.Tally.{Tally}
 
 -- the core, what the devices represent, and what was counted so far

@@ -4,8 +4,8 @@ use Rattle.std.proofs.lemmas.Bool.{cases_Bool}
 use Rattle.std.specs.Prelude.{◌∷◌, length, Option, Some, None}
 use Rattle.std.proofs.Common.{inl, inr, cond, refl, ap, sym, subst, ◌∙◌, arith}
 use Rattle.std.proofs.lemmas.List.{append-nil}
-use Rattle.script_lines.specs.declared.script.Event.TheVariants.{Input, EndInput}
-use Rattle.script_lines.specs.Scripts.{ScriptView}
+use Rattle.text_lines.specs.declared.script.Event.TheVariants.{Input, EndInput}
+use Rattle.text_lines.specs.Scripts.{ScriptView}
 use Rattle.uxn_limits.specs.declared.ports.TheConstants.{CONSOLE_VECTOR}
 use Rattle.varvara_bus.specs.History.{made_ready, stored_short}
 use Rattle.vector_loop.specs.declared.pending_input.PendingInput.{PendingInput}

@@ -9,7 +9,7 @@ use Rattle.varvara_bus.specs.declared.bus.Bus.{Bus}
 use Rattle.varvara_bus.specs.State.{DeviceState, DevicesRepresent, screen_refreshed}
 use Rattle.varvara_bus.specs.Bus.{BusRepresents, IsOutside, StopsShort, bus_rules, contents_on}
 use Rattle.varvara_bus.specs.Folders.{InstructionTakesNames}
-use Rattle.script_lines.specs.declared.script.Event.TheVariants.{Shot}
+use Rattle.text_lines.specs.declared.script.Event.TheVariants.{Shot}
 use Rattle.vector_loop.specs.declared.tally.Tally.{Tally}
 use Rattle.vector_loop.specs.State.{State, counting_event}
 use Rattle.vector_loop.specs.Trace.{Trace, makes, followed_by}

@@ -1,7 +1,7 @@
 //! Events.
 ghost use Rattle.std.specs.Prelude.{◌≡◌, ◌==◌, ◌+◌, ◌*◌, ◌^◌, ◌-◌, ◌<◌, ◌≤◌, ◌⊎◌, None, OnOk, IfErr};
 ghost use Rattle.uxn_limits.specs.declared.limits.TheConstants.{MOST_EVENTS};
-ghost use Rattle.script_lines.specs.declared.script.Event.TheVariants as events;
+ghost use Rattle.text_lines.specs.declared.script.Event.TheVariants as events;
 ghost use Rattle.uxn_io_traits.specs.Ended.{RefusesNone};
 ghost use Rattle.uxn_io_traits.specs.Faults.{Ledger};
 ghost use Rattle.uxn_opcodes.specs.Ports.{result_blame};
@@ -22,7 +22,7 @@ use crate::tally::Tally;
 use crate::watch::Watcher;
 use console_port::EventKind;
 use input_ports::{Input, vector_port};
-use script_lines::Event;
+use text_lines::Event;
 use uxn_io_traits::{Sink, Tree};
 use uxn_limits::ports::{CONSOLE_VECTOR, SYSTEM_STATE};
 use uxn_opcodes::{Core, Ports, Stop};

@@ -1,11 +1,11 @@
 //! What is still to be given of a script.
 ghost use Rattle.std.specs.Prelude.{◌≡◌, ◌↔◌, ◌∷◌, [], true, drop, length, slice_get, slice_index_or};
-ghost use Rattle.script_lines.specs.Held.{bytes_in};
+ghost use Rattle.text_lines.specs.ScriptHeld.{bytes_in};
 ghost use Rattle.vector_loop.specs.PendingInputs.{kind_before, pending_inputs_of};
 
 use crate::pending_input::PendingInput;
 use console_port::EventKind;
-use script_lines::{Event, Script};
+use text_lines::{Event, Script};
 use std::marker::Model;
 use uxn_io_traits::Bytes;
 
@@ -20,7 +20,7 @@ pub struct InputQueue<'a> {
 
 impl<'a> Model for InputQueue<'a> {
     ghost use Rattle.std.specs.Prelude.{List};
-    ghost use Rattle.script_lines.specs.Held.{bytes_in};
+    ghost use Rattle.text_lines.specs.ScriptHeld.{bytes_in};
     ghost use Rattle.vector_loop.specs.declared.pending_input.PendingInput.{PendingInput};
     ghost use Rattle.vector_loop.specs.PendingInputs.{pending_left};
 

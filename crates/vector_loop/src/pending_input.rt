@@ -3,7 +3,7 @@ ghost use Rattle.std.specs.Prelude.{◌≡◌};
 ghost use Rattle.vector_loop.specs.PendingInputs.{console_byte_of};
 
 use console_port::EventKind;
-use script_lines::Event;
+use text_lines::Event;
 
 /// One thing that a run is given.
 #[derive(Clone, Copy)]

@@ -29,7 +29,7 @@ use crate::pending_input::PendingInput;
 use crate::runner::Runner;
 use crate::tally::Tally;
 use crate::watch::{Moment, Watcher};
-use script_lines::Script;
+use text_lines::Script;
 use uxn_io_traits::{Sink, Tree};
 use uxn_opcodes::{Core, Stop};
 use varvara_bus::Bus;

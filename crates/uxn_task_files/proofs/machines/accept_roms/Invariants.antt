@@ -1,5 +1,5 @@
 use Rattle.uxn_task_files.proofs.Common.{All, [], drop, length, ◌≡◌, ◌≤◌, Leads, gather, largest_rom, machine_of}
-use Rattle.script_lines.specs.Held.{bytes_in}
+use Rattle.text_lines.specs.ScriptHeld.{bytes_in}
 use Rattle.uxn_task_files.proofs.machines.accept_roms.Given as goal
 
 abbrev pub invariant-loop-path : goal.invariant-loop-path

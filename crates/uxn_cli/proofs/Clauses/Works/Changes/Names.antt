@@ -3,8 +3,8 @@ pub use Rattle.file_ports.specs.Device.{suits}
 pub use Rattle.file_ports.specs.PartLaws.{below-same, same-part, parts-same}
 pub use Rattle.file_ports.specs.RootPart.{below, parent_is_folder}
 unfoldable pub use Rattle.file_ports.specs.RootPart.{is_in}
-pub use Rattle.script_lines.specs.Scripts.{ScriptView}
-pub use Rattle.script_lines.specs.declared.script.Version.TheVariants.{Second}
+pub use Rattle.text_lines.specs.Scripts.{ScriptView}
+pub use Rattle.text_lines.specs.declared.script.Version.TheVariants.{Second}
 pub use Rattle.std.proofs.Common.{◌≡◌, ℕ, Bool, true, false, List, [], ◌∷◌, ◌++◌, refl, ap, sym, ◌∙◌, Some, ◌≤◌, ◌⊎◌, if◌then◌else◌, inl, inr, subst}
 pub use Rattle.std.proofs.Common.{arith, ◌≢◌, map, length, append-nil, rules, true≢false, ◌+◌}
 pub use Rattle.std.proofs.Math.Bool.{or-true}

@@ -1,6 +1,6 @@
 use Rattle.vector_loop.proofs.Common.{DeviceState, State, Tally, ap, arith, counting_event, none, of_events, of_vectors, picture_bytes, refl, stays}
 use Rattle.std.proofs.Common.{lit≤}
-use Rattle.script_lines.specs.declared.script.Event.TheVariants.{Device, EndInput, Frame, Input, Shot}
+use Rattle.text_lines.specs.declared.script.Event.TheVariants.{Device, EndInput, Frame, Input, Shot}
 use Rattle.varvara_bus.specs.State.{screen_refreshed}
 use Rattle.vector_loop.specs.State.{with_counted, with_next_frame}
 use Rattle.vector_loop.specs.Event.{expected, frame, give, shot, shown_and_heard}

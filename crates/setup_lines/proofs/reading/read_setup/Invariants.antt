@@ -1,9 +1,0 @@
-use Rattle.std.proofs.Common.{length}
-use Rattle.setup_lines.proofs.Stepping.{Standing}
-use Rattle.setup_lines.proofs.reading.read_setup.Given as goal
-
-abbrev pub invariant-loop-line : goal.invariant-loop-line
-invariant-loop-line l = Standing l.text l.lines l.gathered
-
-abbrev pub decreases-loop-line : goal.decreases-loop-line
-decreases-loop-line l = length l.lines.left
