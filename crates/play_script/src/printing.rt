@@ -16,9 +16,9 @@ ghost use Rattle.text_lines.specs.declared.script.Version.TheVariants.{First, Se
 
 use crate::names::{button_name, mouse_button_name};
 use input_ports::Input;
+use std::alloc::{AllocError, Global};
 use text_lines::Value::{self, Button, Byte, Minutes, MouseButton, Pixel, Player, Seconds, Turn};
 use text_lines::{Clock, Event, Script, Version};
-use std::alloc::{AllocError, Global};
 use uxn_io_traits::{Bytes, decimal};
 
 /// The plain text of a script: `script 2` where that is its version, a line for the clock, one for the arguments if there are

@@ -9,10 +9,10 @@ ghost use Rattle.tal_include.specs.declared.faults.IncludeKind.TheVariants.{Word
 ghost use Rattle.tal_include.specs.Sources.{include_source_fault, flat_answer, origin_in, own_answer, source_inquiry, sourced_of, spliced_inquiry};
 
 use super::source_fault::{SourceFault, SourceStop, refused};
-use std::alloc::Global;
-use std::marker::Model;
 use super::splicing::{splice_words, words_to_splice};
 use super::{IncludeKind, Origin, SpliceStop, Spliced};
+use std::alloc::Global;
+use std::marker::Model;
 use tal_rom::{Assembly, assemble};
 use tal_words::{AsmStop, Fault, Word, fault_word};
 use uxn_io_traits::{Bytes, Path, Tree};

@@ -7,8 +7,8 @@ ghost use Rattle.tal_include.specs.Lines.{file_text, message_of};
 ghost use Rattle.tal_include.specs.Sources.{include_source_fault, other_path, own_fault, sourced_of};
 ghost use Rattle.uxn_io_traits.specs.Inquires.{Says};
 
-use std::alloc::{AllocError, Global};
 use super::{IncludeKind, Origin};
+use std::alloc::{AllocError, Global};
 use tal_words::{Fault, fault_word};
 use uxn_io_traits::{Bytes, Halt, Path, decimal};
 

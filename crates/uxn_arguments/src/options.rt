@@ -6,10 +6,10 @@ ghost use Rattle.uxn_arguments.specs.Options.{assemble_task, disassemble_task, r
 ghost use Rattle.uxn_arguments.specs.Values.{optional_path, requested_budget, requested_count, requested_path, required_path};
 ghost use Rattle.uxn_arguments.specs.ReadsArguments.{ReadsArguments};
 
-use super::task::{AssembleTask, DebugTask, DisassembleTask, RunTask, Task};
-use super::words::{Command, WordFault, WordStop};
 use super::choice::{Choice, ChoiceKind};
 use super::reading::Found;
+use super::task::{AssembleTask, DebugTask, DisassembleTask, RunTask, Task};
+use super::words::{Command, WordFault, WordStop};
 use std::alloc::Global;
 use text_lines::number_within;
 use uxn_io_traits::{Bytes, Path};

@@ -13,20 +13,20 @@ ghost use Rattle.uxn_io_traits.specs.Inquiry.{result_as};
 ghost use Rattle.uxn_task_files.specs.declared.refusal.Refusal.TheVariants.{Faulty};
 ghost use Rattle.uxn_cli.specs.Verdict.{accepted_summary};
 
+use super::growing::GrowingSink;
 use super::host::Host;
 use super::machine::new_machine;
+use super::making::workload_source;
 use super::running::{RunEnd, Settings, run_machine};
-use text_lines::Script;
+use super::summary::Ran;
 use std::alloc::{AllocError, Global};
 use tal_include::SourceFault;
 use tal_rom::assemble;
 use tal_words::AsmStop;
+use text_lines::Script;
 use uxn_io_traits::{Halt, NoTree};
 use uxn_limits::limits;
 use uxn_task_files::{Refusal, validate_script};
-use super::growing::GrowingSink;
-use super::making::workload_source;
-use super::summary::Ran;
 use vector_loop::{NoWatch, Outputs};
 
 /// The script of a workload.

@@ -6,8 +6,8 @@ ghost use Rattle.uxn_task_files.specs.Puts.{Puts};
 ghost use Rattle.uxn_cli.specs.Joined.{IsRunnable, LineGoesOn, LineHasDone, job_of_joined};
 ghost use Rattle.uxn_cli.specs.Outcome.{line_bytes, line_exit};
 
-use text_lines::Turns;
 use std::alloc::Global;
+use text_lines::Turns;
 use uxn_io_traits::{Failed, Sink};
 use uxn_line::Line;
 use uxn_opcodes::Stop;

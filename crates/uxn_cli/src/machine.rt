@@ -5,8 +5,8 @@ ghost use Rattle.uxn_opcodes.specs.Rule.{new_core};
 ghost use Rattle.uxn_undo.specs.Row.{IsMachine};
 ghost use Rattle.uxn_cli.specs.Prepared.{AreNew};
 
-use text_lines::Script;
 use std::alloc::{AllocError, Global};
+use text_lines::Script;
 use uxn_io_traits::Path;
 use uxn_line::clock_of;
 use uxn_opcodes::Core;

@@ -16,8 +16,7 @@ use super::joining::run_line;
 use super::playing::play;
 use std::alloc::Global;
 use uxn_arguments::{AssembleTask, Task};
-use uxn_io_traits::Halt as InquiryHalt;
-use uxn_io_traits::{Path, Sink, Tree};
+use uxn_io_traits::{Halt as InquiryHalt, Path, Sink, Tree};
 use uxn_line::are_of_console;
 use uxn_task_files::{
     Halt, Refusal, assemble, disassemble_rom, print, read_machines, write_outputs,

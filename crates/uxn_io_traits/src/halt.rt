@@ -1,7 +1,7 @@
 //! Why a call ends before its work is done.
 
-use std::alloc::{AllocError, AllocFailed};
 use super::{Failed, ReadStop};
+use std::alloc::{AllocError, AllocFailed};
 
 /// Why a call ended before its work was done.
 #[derive(Drop)]

@@ -18,8 +18,8 @@ ghost use Rattle.uxn_line.specs.Moves.{Came, Fails, Goes, MachineIsHeld, IsUnder
 use crate::member::Member;
 use crate::output::next_byte;
 use console_port::{Output, console_write};
-use text_lines::{Clock, Script};
 use std::alloc::{AllocError, Global};
+use text_lines::{Clock, Script};
 use uxn_io_traits::{Bytes, Failed, NoSink, Sink};
 use vector_loop::InputQueue;
 

@@ -20,8 +20,8 @@ ghost use Rattle.uxn_line.specs.Places.{turn, put_in, IsForConsole};
 ghost use Rattle.uxn_line.specs.Machines.{Rests, MachineHasDone, MachineRepresents, handed_on};
 
 use console_port::EventKind;
-use text_lines::Clock as ScriptClock;
 use std::alloc::{AllocError, Global};
+use text_lines::Clock as ScriptClock;
 use uxn_io_traits::{Bytes, NoSink, NoTree};
 use uxn_limits::ports::{CONSOLE_VECTOR, SYSTEM_STATE};
 use uxn_opcodes::{Core, Turn, step};

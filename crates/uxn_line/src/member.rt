@@ -14,8 +14,8 @@ ghost use Rattle.uxn_line.specs.Work.{work};
 
 use crate::machine::Machine;
 use circular_buffer::HeapCircularBuffer;
-use text_lines::{Clock, Event};
 use std::alloc::{AllocError, Global};
+use text_lines::{Clock, Event};
 use uxn_io_traits::Bytes;
 use vector_loop::PendingInput;
 

@@ -17,8 +17,7 @@ use tal_include::AssembledSource;
 use tal_listing::listing;
 use tal_symbols::write_symbols;
 use uxn_arguments::AssembleTask;
-use uxn_io_traits::Halt as InquiryHalt;
-use uxn_io_traits::{Path, Tree};
+use uxn_io_traits::{Halt as InquiryHalt, Path, Tree};
 
 /// The files that were requested, with what they are to hold.
 #[tactic(auto, using(crate::proofs::OutputLemmas::pushed))]

@@ -6,11 +6,11 @@ ghost use Rattle.uxn_task_files.specs.Inputs.{text_of, size_rule, kind_text, too
 
 use super::refusal::Refusal;
 use debug_commands::CommandKind;
-use text_lines::{ScriptKind, SetupKind};
 use std::alloc::Global;
 use tal_include::{IncludeKind, SourceFault};
 use tal_symbols::SymbolKind;
 use tal_words::FaultKind;
+use text_lines::{ScriptKind, SetupKind};
 use uxn_io_traits::{Bytes, FileBytes, Halt, Path, Tree, read_whole};
 use uxn_limits::limits;
 

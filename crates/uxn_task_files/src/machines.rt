@@ -13,8 +13,8 @@ use super::program::Program;
 use super::refusal::Refusal;
 use super::scripts::accept_script;
 use super::sources::accept_source;
-use text_lines::{Script, Setup, SetupStop, read_setup};
 use std::alloc::Global;
+use text_lines::{Script, Setup, SetupStop, read_setup};
 use uxn_io_traits::{Bytes, Halt, Path, Tree};
 
 /// What a line is made of, once all that its setup names is accepted.

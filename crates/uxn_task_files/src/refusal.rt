@@ -7,12 +7,11 @@ ghost use Rattle.uxn_task_files.specs.Blame.{as_step};
 ghost use Rattle.uxn_task_files.specs.Puts.{Puts};
 
 use debug_commands::CommandKind;
-use text_lines::{ScriptKind, SetupKind};
 use std::alloc::{AllocError, Global};
 use tal_include::SourceFault;
 use tal_symbols::SymbolKind;
-use uxn_io_traits::Halt as InquiryHalt;
-use uxn_io_traits::{Bytes, Failed, Path, Sink, decimal, put_all};
+use text_lines::{ScriptKind, SetupKind};
+use uxn_io_traits::{Bytes, Failed, Halt as InquiryHalt, Path, Sink, decimal, put_all};
 use uxn_opcodes::Stop;
 
 /// Why a call does nothing but put one line on the error output.

@@ -11,8 +11,8 @@ use super::refusal::Refusal;
 use super::scripts::accept_script;
 use super::symbols::accept_symbols;
 use debug_commands::DebugCommand;
-use text_lines::Script;
 use std::alloc::Global;
+use text_lines::Script;
 use uxn_arguments::{DebugTask, RunTask};
 use uxn_io_traits::{Halt, Path, Tree};
 

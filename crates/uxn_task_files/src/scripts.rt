@@ -4,8 +4,8 @@ ghost use Rattle.uxn_task_files.specs.Accepted.{script_of, validated_script};
 
 use super::inputs::{InputKind, read_text};
 use super::refusal::Refusal;
-use text_lines::{Script, ScriptStop, read_script};
 use std::alloc::Global;
+use text_lines::{Script, ScriptStop, read_script};
 use uxn_io_traits::{Halt, Path, Tree};
 
 /// The script of a text.

@@ -5,8 +5,8 @@ ghost use Rattle.vector_loop.specs.PendingInputs.{kind_before, pending_inputs_of
 
 use crate::pending_input::PendingInput;
 use console_port::EventKind;
-use text_lines::{Event, Script};
 use std::marker::Model;
+use text_lines::{Event, Script};
 use uxn_io_traits::Bytes;
 
 /// What is still to be given of a script: the bytes of its arguments, with a newline behind each, and then its events.
