@@ -90,7 +90,9 @@ fn command_of(
 fn memory_of_values(labels: &[Label], values: &[u8]) -> Result<DebugCommand, CommandKind>
     ensures { result ≡ command_of labels.now Mem (words_of values.now) }
 {
-    let (address, more) = first_word(values).ok_or(CommandKind::BadValue)?;
+    let Some((address, more)) = first_word(values) else {
+        return Err(CommandKind::BadValue);
+    };
     let count = count_of_values(limits::MOST_PRINTED, more)?;
     Ok(DebugCommand::Mem(address_in(labels, address)?, count as u16))
 }
@@ -101,7 +103,9 @@ fn count_of_values(most: u64, values: &[u8]) -> Result<u32, CommandKind>
     ensures count { result ≡ count_of_values most (words_of values.now) }
     ensures within { IfOk result (λ count. count ≤ most) }
 {
-    let (word, _) = first_word(values).ok_or(CommandKind::BadValue)?;
+    let Some((word, _)) = first_word(values) else {
+        return Err(CommandKind::BadValue);
+    };
     match number_within(1, most, word) {
         Some(count) => Ok(count as u32),
         None => Err(CommandKind::BadValue),
@@ -112,7 +116,9 @@ fn count_of_values(most: u64, values: &[u8]) -> Result<u32, CommandKind>
 fn address_of_values(labels: &[Label], values: &[u8]) -> Result<u16, CommandKind>
     ensures { result ≡ address_of_values labels.now (words_of values.now) }
 {
-    let (word, _) = first_word(values).ok_or(CommandKind::BadValue)?;
+    let Some((word, _)) = first_word(values) else {
+        return Err(CommandKind::BadValue);
+    };
     address_in(labels, word)
 }
 

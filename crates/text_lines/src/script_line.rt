@@ -68,12 +68,12 @@ pub(crate) fn script_line_of(
     ensures fits { FitsLine result (script_line_of version (words_of line.now)) }
     ensures limits { IfOk result (λ given. IfSome given (IsScriptRead version (length line.now))) }
 {
-    match keyword_of(rows_of(version), line)? {
-        Some((keyword, values)) => match script_meaning_of(alloc, version, keyword, values)? {
-            Some(meaning) => Ok(Some(meaning)),
-            None => Err(LineStop::Faulty(ScriptKind::BadValue)),
-        },
-        None => Ok(None),
+    let Some((keyword, values)) = keyword_of(rows_of(version), line)? else {
+        return Ok(None);
+    };
+    match script_meaning_of(alloc, version, keyword, values)? {
+        None => Err(LineStop::Faulty(ScriptKind::BadValue)),
+        meaning => Ok(meaning),
     }
 }
 
@@ -173,14 +173,10 @@ fn version_of(version: Version, values: &[u8]) -> Option<Meaning>
 {
     match version {
         Version::First => None,
-        Version::Second => {
-            let (number, _) = first_word(values)?;
-            if number == b"2".as_slice() {
-                Some(Meaning::VersionLine)
-            } else {
-                None
-            }
-        }
+        Version::Second => match first_word(values) {
+            Some((number, _)) if number == b"2".as_slice() => Some(Meaning::VersionLine),
+            _ => None,
+        },
     }
 }
 
@@ -188,9 +184,13 @@ fn version_of(version: Version, values: &[u8]) -> Option<Meaning>
 fn two_words(values: &[u8]) -> Option<(&[u8], &[u8])>
     ensures { option_map (λ two. (two.0.now, two.1.now)) result ≡ two_words (words_of values.now) }
 {
-    let (first, more) = first_word(values)?;
-    let (second, _) = first_word(more)?;
-    Some((first, second))
+    match first_word(values) {
+        Some((first, more)) => match first_word(more) {
+            Some((second, _)) => Some((first, second)),
+            None => None,
+        },
+        None => None,
+    }
 }
 
 #[tactic(auto, unfolding(crate::specs::ScriptRows::clock_of_values))]
@@ -199,10 +199,10 @@ fn clock_of_values(values: &[u8]) -> Option<Clock>
     ensures limits { IfSome result IsTime }
 {
     let (seconds, offset) = two_words(values)?;
-    Some(Clock {
-        seconds: seconds_of(seconds)?,
-        offset: minutes_of(offset)?,
-    })
+    match (seconds_of(seconds), minutes_of(offset)) {
+        (Some(seconds), Some(offset)) => Some(Clock { seconds, offset }),
+        _ => None,
+    }
 }
 
 #[tactic(auto, unfolding(crate::specs::ScriptRows::keys_of))]
@@ -211,9 +211,10 @@ fn keys_of(version: Version, values: &[u8]) -> Option<Meaning>
     ensures limits { IfSome result (IsScriptRead version 0) }
 {
     let (word, more) = first_word(values)?;
-    let byte = byte_of(word)?;
-    let count = further_of(version, MOST_TIMES, more)?;
-    Some(Meaning::Times(Event::Device(Input::Key(byte)), count))
+    match (byte_of(word), further_of(version, MOST_TIMES, more)) {
+        (Some(byte), Some(count)) => Some(Meaning::Times(Event::Device(Input::Key(byte)), count)),
+        _ => None,
+    }
 }
 
 #[tactic(auto, unfolding(crate::specs::ScriptRows::expect_of))]
@@ -225,8 +226,10 @@ fn expect_of(version: Version, values: &[u8]) -> Option<Meaning>
         Version::First => None,
         Version::Second => {
             let (port, byte) = two_words(values)?;
-            let expect = Event::Expect(byte_of(port)?, byte_of(byte)?);
-            Some(Meaning::Times(expect, 1))
+            match (byte_of(port), byte_of(byte)) {
+                (Some(port), Some(byte)) => Some(Meaning::Times(Event::Expect(port, byte), 1)),
+                _ => None,
+            }
         }
     }
 }
@@ -277,7 +280,10 @@ fn mouse_of(values: &[u8]) -> Option<Input>
     ensures limits { (version : Version) → IfSome result (λ input. IsEvent version (Device input)) }
 {
     let (x, y) = two_words(values)?;
-    Some(Input::Mouse(pixel_of(x)?, pixel_of(y)?))
+    match (pixel_of(x), pixel_of(y)) {
+        (Some(x), Some(y)) => Some(Input::Mouse(x, y)),
+        _ => None,
+    }
 }
 
 #[tactic(auto, unfolding(crate::specs::ScriptRows::scroll_of))]
@@ -286,7 +292,10 @@ fn scroll_of(values: &[u8]) -> Option<Input>
     ensures limits { (version : Version) → IfSome result (λ input. IsEvent version (Device input)) }
 {
     let (x, y) = two_words(values)?;
-    Some(Input::Scroll(turn_of(x)?, turn_of(y)?))
+    match (turn_of(x), turn_of(y)) {
+        (Some(x), Some(y)) => Some(Input::Scroll(x, y)),
+        _ => None,
+    }
 }
 
 // The texts of a line, if each of its words is one.

@@ -60,14 +60,12 @@ fn version_of(text: &[u8]) -> Version
 fn version_at(line: &[u8]) -> Option<Version>
     ensures { result ≡ version_at (words_of line.now) }
 {
-    let (name, _) = first_word(line)?;
-    if begins_with(b'#', name) {
-        return None;
+    match first_word(line) {
+        Some((name, _)) if begins_with(b'#', name) => None,
+        Some((name, _)) if name == b"script".as_slice() => Some(Version::Second),
+        Some(_) => Some(Version::First),
+        None => None,
     }
-    if name == b"script".as_slice() {
-        return Some(Version::Second);
-    }
-    Some(Version::First)
 }
 
 // What stops a script whose line stops.

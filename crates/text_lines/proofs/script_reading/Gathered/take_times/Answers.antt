@@ -1,3 +1,4 @@
+use Rattle.std.proofs.lemmas.Grind.{common_steps}
 use Rattle.std.proofs.Common.{◌≡◌, ◌++◌, length-append, sym, arith}
 use Rattle.std.specs.Prelude.{replicate}
 use Rattle.std.proofs.lemmas.List.{length-replicate}
@@ -21,3 +22,9 @@ invariant_of-self-2 c =
           rw is (omega (arith, more, count, c.if-count-len.false, c.len.ensures, c.self.inside.events.ok.0, c.self.invariant.few));
       given = rw is (pushed_times c.self.inside.version before c.args.given c.args.count c.self.invariant.given is_event);
     }
+
+pub returns : goal.returns
+returns c = grind (arith, common_steps, made_longer)
+
+pub returns-then-count-len : goal.returns-then-count-len
+returns-then-count-len c = grind (arith, common_steps)
