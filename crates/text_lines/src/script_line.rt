@@ -184,13 +184,9 @@ fn version_of(version: Version, values: &[u8]) -> Option<Meaning>
 fn two_words(values: &[u8]) -> Option<(&[u8], &[u8])>
     ensures { option_map (λ two. (two.0.now, two.1.now)) result ≡ two_words (words_of values.now) }
 {
-    match first_word(values) {
-        Some((first, more)) => match first_word(more) {
-            Some((second, _)) => Some((first, second)),
-            None => None,
-        },
-        None => None,
-    }
+    let (first, more) = first_word(values)?;
+    let (second, _) = first_word(more)?;
+    Some((first, second))
 }
 
 #[tactic(auto, unfolding(crate::specs::ScriptRows::clock_of_values))]
