@@ -47,11 +47,10 @@ pub fn number_within(low: u64, high: u64, word: &[u8]) -> Option<u64>
     if !is_number(word) {
         return None;
     }
-    let number = spelled(word)?;
-    if number < low || number > high {
-        return None;
+    match spelled(word) {
+        Some(number) if low <= number && number <= high => Some(number),
+        _ => None,
     }
-    Some(number)
 }
 
 /// Whether a word begins with a byte.
