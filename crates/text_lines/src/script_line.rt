@@ -68,12 +68,12 @@ pub(crate) fn script_line_of(
     ensures fits { FitsLine result (script_line_of version (words_of line.now)) }
     ensures limits { IfOk result (λ given. IfSome given (IsScriptRead version (length line.now))) }
 {
-    let Some((keyword, values)) = keyword_of(rows_of(version), line)? else {
-        return Ok(None);
-    };
-    match script_meaning_of(alloc, version, keyword, values)? {
-        None => Err(LineStop::Faulty(ScriptKind::BadValue)),
-        meaning => Ok(meaning),
+    match keyword_of(rows_of(version), line)? {
+        Some((keyword, values)) => match script_meaning_of(alloc, version, keyword, values)? {
+            Some(meaning) => Ok(Some(meaning)),
+            None => Err(LineStop::Faulty(ScriptKind::BadValue)),
+        },
+        None => Ok(None),
     }
 }
 

@@ -34,12 +34,12 @@ pub(crate) fn setup_line_of(line: &[u8]) -> Result<Option<SetupLine>, SetupKind>
     ensures line { result ≡ setup_line_of (words_of line.now) }
     ensures limits { IfOk result (λ given. IfSome given IsWithin) }
 {
-    match keyword_of(rows(), line)? {
-        Some((keyword, values)) => {
-            let given = setup_of_values(keyword, values).ok_or(SetupKind::BadValue)?;
-            Ok(Some(given))
-        }
-        None => Ok(None),
+    let Some((keyword, values)) = keyword_of(rows(), line)? else {
+        return Ok(None);
+    };
+    match setup_of_values(keyword, values) {
+        None => Err(SetupKind::BadValue),
+        given => Ok(given),
     }
 }
 
@@ -74,7 +74,14 @@ fn turns_of(machine: &[u8], more: &[u8]) -> Option<Turns>
     ensures limits { IfSome result (λ turns. IsWithin (Turn turns)) }
 {
     let (count, _) = first_word(more)?;
-    let machine = number_within(1, limits::MOST_MACHINES as u64, machine)? as u8;
-    let count = number_within(1, limits::TURNS_OF_LINE, count)? as u32;
-    Some(Turns { machine, count })
+    match (
+        number_within(1, limits::MOST_MACHINES as u64, machine),
+        number_within(1, limits::TURNS_OF_LINE, count),
+    ) {
+        (Some(machine), Some(count)) => Some(Turns {
+            machine: machine as u8,
+            count: count as u32,
+        }),
+        _ => None,
+    }
 }
