@@ -19,5 +19,3 @@ run_length-more source at within plain =
 -- the run at the end is empty
 pub run_length-end : (source : List ℕ) (at : ℕ) → length source ≤ at → run_length source at ≡ 0
 run_length-end source at past = at_drop_all (prefix_len (λ byte. not (is_blank byte))) source at past
-
-pub ruleset run_steps = (run_length-blank, run_length-more, run_length-end)

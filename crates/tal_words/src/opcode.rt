@@ -1,6 +1,6 @@
 //! The names of the opcodes.
 
-ghost use Rattle.std.specs.Prelude.{◌≡◌, ◌%◌, ◌==◌, not, slice_index_or, ℕ, ◌<◌, ◌≤◌, ◌+◌, Some, [], ◌∷◌, ◌++◌, take, drop, if◌then◌else◌};
+ghost use Rattle.std.specs.Prelude.{◌≡◌, ◌%◌, ◌==◌, not, slice_index_or, ℕ, ◌<◌, ◌≤◌, ◌+◌, Some, IfSome, [], ◌∷◌, ◌++◌, take, drop, if◌then◌else◌};
 ghost use Rattle.std.specs.List.{position_from};
 ghost use Rattle.std.specs.Str.{bytes_eq};
 ghost use Rattle.arrayvec.specs.ArrayVec.{array_vec_len};
@@ -11,7 +11,7 @@ use arrayvec::ArrayVec;
 use uxn_opcodes::{Mode, Width};
 
 /// The operations, in order of the low five bits of their bytes.
-const OPERATION_NAMES: [[u8; 3]; 32] = [
+static OPERATION_NAMES: [[u8; 3]; 32] = [
     *b"LIT", *b"INC", *b"POP", *b"NIP", *b"SWP", *b"ROT", *b"DUP", *b"OVR", *b"EQU", *b"NEQ",
     *b"GTH", *b"LTH", *b"JMP", *b"JCN", *b"JSR", *b"STH", *b"LDZ", *b"STZ", *b"LDR", *b"STR",
     *b"LDA", *b"STA", *b"DEI", *b"DEO", *b"ADD", *b"SUB", *b"MUL", *b"DIV", *b"AND", *b"ORA",
@@ -53,7 +53,8 @@ fn moded_op_byte(word: &[u8]) -> Option<u8>
 /// The index of a name among the operations.
 #[tactic(auto, using(crate::proofs::Operations::operation_steps))]
 fn operation_of(name: &[u8]) -> Option<u8>
-    ensures { result ≡ position_from (bytes_eq name.now) 0 operation_names }
+    ensures value { result ≡ position_from (bytes_eq name.now) 0 operation_names }
+    ensures small { IfSome result (λ code. code < 32) }
 {
     for code in 0..32u8 {
         if name == OPERATION_NAMES[code as usize].as_slice() {

@@ -31,7 +31,6 @@ pub fn is_only(text: &[u8], byte: u8) -> bool
 }
 
 /// The offset of the next blank from an offset on, or of the end.
-#[tactic(auto, using(crate::proofs::Runs::run_steps))]
 pub fn run_end(source: &[u8], from: usize) -> usize
     requires { from ≤ length source.now }
     ensures end { result ≡ from + run_length source.now from }
