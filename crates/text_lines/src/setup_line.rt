@@ -74,14 +74,7 @@ fn turns_of(machine: &[u8], more: &[u8]) -> Option<Turns>
     ensures limits { IfSome result (λ turns. IsWithin (Turn turns)) }
 {
     let (count, _) = first_word(more)?;
-    match (
-        number_within(1, limits::MOST_MACHINES as u64, machine),
-        number_within(1, limits::TURNS_OF_LINE, count),
-    ) {
-        (Some(machine), Some(count)) => Some(Turns {
-            machine: machine as u8,
-            count: count as u32,
-        }),
-        _ => None,
-    }
+    let machine = number_within(1, limits::MOST_MACHINES as u64, machine)? as u8;
+    let count = number_within(1, limits::TURNS_OF_LINE, count)? as u32;
+    Some(Turns { machine, count })
 }
