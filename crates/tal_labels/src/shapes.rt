@@ -66,6 +66,7 @@ pub fn strays_match_no_opener()
 {}
 
 /// What is wrong with a word's shape, or with its place, stands in the order of its kinds, so that the first is the least.
+#[tactic(auto, using(crate::proofs::OrderLemmas::shape_in_order, crate::proofs::OrderLemmas::place_in_order))]
 pub fn faults_of_places_are_in_order()
     ensures shapes { (source : List ℕ) (before after : List ExpandedWord) (word : ExpandedWord)
         → are_in_order (validated_shape source before word after).kinds ≡ true }
