@@ -1,8 +1,6 @@
 use Rattle.uxn_cli.proofs.Clauses.Works.{contents_on, ◌≡◌, ◌∙◌, refl, ap, rules, arith, Err, false, exit_code_of, first_devices, reference_trace}
-use Rattle.uxn_cli.proofs.Clauses.Works.{at-start, ℕ, exit_code_at, run_end}
+use Rattle.uxn_cli.proofs.Clauses.Works.{at-start, exit_code_at, run_end}
 use Rattle.uxn_cli.specs.RunsFromRoot.{machine_trace}
-use Rattle.vector_loop.specs.State.{State}
-use Rattle.vector_loop.specs.declared.tally.Tally.{Tally}
 use Rattle.std.specs.FinMap as fin
 use Rattle.uxn_cli.proofs.running.run_machine.Goals as goal
 

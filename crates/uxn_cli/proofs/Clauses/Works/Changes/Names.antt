@@ -41,9 +41,9 @@ pub use Rattle.uxn_cli.specs.Outside.{DoesWork, HostState, host_state, observed_
 pub use Rattle.uxn_cli.specs.Prepared.{IsPlanned, AreNew, IsPreparedRun, prepared_debugging, prepared_job, prepared_plan, printed_plan}
 pub use Rattle.uxn_cli.specs.Refused.{HasNoRoot, AtMostOne, CountsRefusals, ReportsRefused}
 pub use Rattle.uxn_cli.specs.RunJob.{trace_of, RunJob, job_outputs, first_state, log_texts, RootView, Debugging, debugging, first_devices}
-pub use Rattle.uxn_cli.specs.RunJob.{root_view_in, no_root_view, common_lines, further_lines, wanted_outputs, run_end}
+pub use Rattle.uxn_cli.specs.RunJob.{root_view_in, no_root_view, common_lines, wanted_outputs, run_end}
 unfoldable pub use Rattle.uxn_cli.specs.RunJob.{reference_trace, report_text}
-pub use Rattle.uxn_cli.specs.RunsFromRoot.{AtRootView, RunFiles, RunsFromRoot, RunsOverOutside, blame_if, task_settings, task_trace, logged_changes}
+pub use Rattle.uxn_cli.specs.RunsFromRoot.{AtRootView, RunFiles, RunsFromRoot, RunsOverOutside, blame_if, task_trace, logged_changes}
 pub use Rattle.uxn_cli.specs.Truncated.{HoldsPrefixes, LeavesPrefixes}
 pub use Rattle.uxn_cli.specs.Verdict.{Work, Run, Write, Print, RunLine, accepted_summary, Plan, plan_of, inquiry_of, run_plan, planned, line_job}
 pub use Rattle.uxn_cli.specs.Verdict.{run_job, given_debugging}
@@ -89,7 +89,7 @@ pub use Rattle.uxn_io_traits.specs.TakingLaws.{not-guaranteed-first, not-guarant
 pub use Rattle.uxn_io_traits.specs.declared.sinks.Failed.{Failed}
 pub use Rattle.uxn_limits.specs.declared.limits.TheConstants.{USUAL_BUDGET}
 pub use Rattle.uxn_line.specs.Moves.{IsUnderWay}
-pub use Rattle.uxn_line.specs.Streams.{is_of_console, clock_by, exit_code_at, LineJob}
+pub use Rattle.uxn_line.specs.Streams.{is_of_console, exit_code_at, LineJob}
 pub use Rattle.uxn_line.specs.declared.line.Line.{Line as LineOf}
 pub use Rattle.uxn_opcodes.specs.Ports.{result_blame as blame_of_result}
 pub use Rattle.uxn_opcodes.specs.Rule.{new_core}
@@ -109,7 +109,7 @@ unfoldable pub use Rattle.uxn_task_files.specs.Accepted.{run_of, files_of, disas
 pub use Rattle.uxn_task_files.specs.Blame.{stop_blame, status_blame, as_step, halted_by_tree, result_blame, OnRefused, halt_of_inquiry}
 pub use Rattle.uxn_task_files.specs.Held.{model_of_program}
 pub use Rattle.uxn_task_files.specs.Lines.{refusal_line, refusal_text}
-pub use Rattle.uxn_task_files.specs.Made.{MakesOutputs, WritesOutputs, Made, AreFree, Refuses, EndsMaking}
+pub use Rattle.uxn_task_files.specs.Made.{MakesOutputs, WritesOutputs, AreFree, Refuses, EndsMaking}
 pub use Rattle.uxn_task_files.specs.Outputs.{paths_of, observed_texts}
 pub use Rattle.uxn_task_files.specs.Puts.{Puts}
 pub use Rattle.uxn_task_files.specs.Request.{request}
@@ -125,7 +125,7 @@ pub use Rattle.uxn_task_files.specs.declared.refusal.Refusal.TheVariants.{OtherE
 pub use Rattle.uxn_cli.specs.Summary.{summary_text}
 pub use Rattle.varvara_bus.proofs.Appends.{appended-stays}
 pub use Rattle.varvara_bus.specs.Bus.{IsOutside, BusRepresents, FilesStay, IsFileWhereKnown, contents_on}
-pub use Rattle.varvara_bus.specs.State.{HasFiles, DevicesRepresent, new_state}
+pub use Rattle.varvara_bus.specs.State.{HasFiles}
 pub use Rattle.varvara_bus.specs.Touching.{IsSeparateFrom}
 pub use Rattle.varvara_bus.specs.declared.bus.Bus.{Bus}
 pub use Rattle.varvara_bus.specs.declared.devices.Devices.{Devices}
