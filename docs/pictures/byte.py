@@ -11,8 +11,8 @@ CRATES = os.path.join(os.path.dirname(os.path.abspath(__file__)), "..", "..", "c
 LEFT, STEP, WIDTH, HIGH = 66, 132, 108, 28
 ROWS = [
     ("read", GREEN, [
-        ("arguments", "uxn_program"), ("task", "uxn_arguments"), ("inputs", "uxn_task_files"),
-        ("ROM", "tal_include"), ("events", "text_lines"), ("empty outputs", "uxn_task_files")]),
+        ("arguments", "uxn_program"), ("task", "uxn_arguments"), ("inputs", "uxn_cli"),
+        ("ROM", "tal_include"), ("events", "text_lines"), ("empty outputs", "uxn_cli")]),
     ("run", BLUE, [
         ("event", "vector_loop"), ("stored ports", "input_ports"), ("vector", "vector_loop"),
         ("instruction", "uxn_opcodes"), ("DEO to 2f", "varvara_bus"), ("sprite", "screen_layers")]),

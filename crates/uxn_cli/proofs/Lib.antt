@@ -1,1 +1,14 @@
+pub mod Common
+pub mod StepLemmas
+pub mod GivesLemmas
+pub mod WritingLemmas
+pub mod OutputLemmas
+pub mod PlaceLemmas
+pub mod WordLemmas
+pub mod StatusLemmas
+pub mod AnswerLemmas
+pub mod ApartLemmas
+pub mod FreeLemmas
+pub mod DidLemmas
+pub mod MakingLemmas
 pub mod Clauses

@@ -6,9 +6,9 @@ use Rattle.uxn_opcodes.specs.declared.Stop.{Stop}
 use Rattle.uxn_opcodes.specs.declared.Stop.TheVariants.{TreeFault, SinkFault, NoMemory}
 use Rattle.vector_loop.specs.Folders.{TraceTakesNames}
 use Rattle.uxn_arguments.specs.declared.task.Task.{Task}
-use Rattle.uxn_task_files.specs.declared.refusal.Refusal.{Refusal}
-use Rattle.uxn_task_files.specs.declared.refusal.Halt.{Halt}
-use Rattle.uxn_task_files.specs.declared.refusal.Halt.TheVariants.{Refused, Stopped}
+use Rattle.uxn_cli.specs.declared.task_files.refusal.Refusal.{Refusal}
+use Rattle.uxn_cli.specs.declared.task_files.refusal.Halt.{Halt}
+use Rattle.uxn_cli.specs.declared.task_files.refusal.Halt.TheVariants.{Refused, Stopped}
 use Rattle.uxn_io_traits.specs.Gives.{Gives}
 use Rattle.uxn_cli.specs.Verdict.{Work, Run, Write, inquiry_of}
 use Rattle.uxn_cli.specs.Outcome.{Outcome, outcome_of}

@@ -4,12 +4,12 @@ use Rattle.uxn_io_traits.specs.declared.sinks.Sink as sink
 use Rattle.uxn_io_traits.specs.declared.trees.Tree as tree
 use Rattle.uxn_opcodes.specs.declared.Stop.{Stop}
 use Rattle.uxn_arguments.specs.declared.task.Task.{Task}
-use Rattle.uxn_task_files.specs.declared.refusal.Refusal.{Refusal}
+use Rattle.uxn_cli.specs.declared.task_files.refusal.Refusal.{Refusal}
 use Rattle.uxn_cli.specs.Causes.{tree_verdict}
 use Rattle.uxn_cli.specs.declared.host.Host.{Host}
 use Rattle.uxn_io_traits.specs.State.{Outside, outside}
-use Rattle.uxn_task_files.specs.Request.{request}
-use Rattle.uxn_task_files.specs.Statuses.{early_status}
+use Rattle.uxn_cli.specs.Request.{request}
+use Rattle.uxn_cli.specs.Statuses.{early_status}
 use Rattle.uxn_cli.specs.Verdict.{Work}
 
 pub record Call : Type 0 where

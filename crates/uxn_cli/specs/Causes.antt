@@ -8,11 +8,11 @@ use Rattle.file_ports.specs.Device.{suits}
 use Rattle.uxn_io_traits.specs.Known.{extended}
 use Rattle.uxn_io_traits.specs.Files.{Nodes}
 use Rattle.uxn_arguments.specs.declared.task.Task.{Task}
-use Rattle.uxn_task_files.specs.declared.refusal.Refusal.{Refusal}
+use Rattle.uxn_cli.specs.declared.task_files.refusal.Refusal.{Refusal}
 use Rattle.uxn_io_traits.specs.Inquiry.{answer_in}
 use Rattle.uxn_cli.specs.Verdict.{Work, inquiry_of}
 use Rattle.uxn_arguments.specs.Options.{outputs_of, root_of}
-use Rattle.uxn_task_files.specs.Statuses.{IsEarly}
+use Rattle.uxn_cli.specs.Statuses.{IsEarly}
 use Rattle.uxn_cli.specs.Outcome.{outcome_of}
 
 -- the answer is this status exactly where the fact holds, unless the call ended early

@@ -7,15 +7,15 @@ use Rattle.uxn_io_traits.specs.Outside.{IsCutOff}
 use Rattle.uxn_io_traits.specs.Taking.{WasNotGuaranteed}
 use Rattle.uxn_opcodes.specs.declared.Stop.{Stop}
 use Rattle.uxn_cli.specs.Answer.{MayRunOut, AnswersCall}
-use Rattle.uxn_task_files.specs.Blame.{status_blame}
+use Rattle.uxn_cli.specs.Blame.{status_blame}
 use Rattle.uxn_cli.specs.Call.{Call, call_request, OfVerdict, step_status}
 use Rattle.uxn_cli.specs.Causes.{IsExactly, tree_verdict, EndsWith, KeepsOthers, PutsLine}
 use Rattle.uxn_cli.specs.Isolation.{LookSame, GivesAsOn}
 use Rattle.uxn_cli.specs.Observation.{HaveSameItems}
 use Rattle.uxn_cli.specs.Outcome.{outcome_of, GivesOutcome}
-use Rattle.uxn_task_files.specs.Request.{request}
-use Rattle.uxn_task_files.specs.Statuses.{status_of, IsEarly, IsRefusing, IsRefusedWith}
-use Rattle.uxn_task_files.specs.declared.refusal.Refusal.{Refusal}
+use Rattle.uxn_cli.specs.Request.{request}
+use Rattle.uxn_cli.specs.Statuses.{status_of, IsEarly, IsRefusing, IsRefusedWith}
+use Rattle.uxn_cli.specs.declared.task_files.refusal.Refusal.{Refusal}
 use Rattle.uxn_cli.specs.Verdict.{Work}
 
 -- the status, the bytes on both outputs and the files are the outcome of what was requested and read; or the call ended early

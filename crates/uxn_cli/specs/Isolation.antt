@@ -4,12 +4,12 @@ use Rattle.uxn_io_traits.specs.Along.{AgreeAlong}
 use Rattle.uxn_io_traits.specs.Files.{Nodes}
 use Rattle.uxn_io_traits.specs.Outside.{World}
 use Rattle.uxn_arguments.specs.declared.task.Task.{Task}
-use Rattle.uxn_task_files.specs.declared.refusal.Refusal.{Refusal}
+use Rattle.uxn_cli.specs.declared.task_files.refusal.Refusal.{Refusal}
 use Rattle.uxn_cli.specs.RunJob.{root_view_in}
 use Rattle.uxn_cli.specs.Verdict.{inquiry_of}
 use Rattle.uxn_cli.specs.Outcome.{outcome_of, root_of_work, IsOutputOf, GivesOutcome}
 use Rattle.uxn_cli.specs.Causes.{tree_verdict}
-use Rattle.uxn_task_files.specs.Statuses.{IsEarly}
+use Rattle.uxn_cli.specs.Statuses.{IsEarly}
 
 -- another tree replies the same to what is asked; and is the same beneath the root and in the root's parent, where a program is run
 pub record LookSame (requested : Result Task Refusal) (nodes other : Nodes) : Type 0 where

@@ -6,8 +6,8 @@ use Rattle.uxn_io_traits.specs.declared.sinks.Failed.{Failed}
 use Rattle.uxn_line.specs.declared.line.Line.{Line}
 use Rattle.uxn_line.specs.Moves.{IsUnderWay, StaysUnderWay}
 use Rattle.uxn_line.specs.Streams.{LineJob, AreOfConsole}
-use Rattle.uxn_task_files.specs.declared.machines.LineInputs.{LineInputs}
-use Rattle.uxn_task_files.specs.Held.{AreMachines, model_of_machines}
+use Rattle.uxn_cli.specs.declared.task_files.machines.LineInputs.{LineInputs}
+use Rattle.uxn_cli.specs.Held.{AreMachines, model_of_machines}
 use Rattle.uxn_cli.specs.Verdict.{RunLine, Plan, planned, line_job}
 use Rattle.uxn_cli.specs.Outcome.{line_bytes, line_exit}
 

@@ -1,3 +1,15 @@
+pub mod Lines
+pub mod Statuses
+pub mod World
+pub mod Writing
+pub mod Outputs
+pub mod Request
+pub mod Inputs
+pub mod Blame
+pub mod Puts
+pub mod Accepted
+pub mod Held
+pub mod Made
 pub mod Verdict
 pub mod RunJob
 pub mod Outcome

@@ -7,9 +7,9 @@ use Rattle.uxn_arguments.specs.Words.{task_of}
 use Rattle.uxn_arguments.specs.declared.task.DebugTask.{DebugTask}
 use Rattle.uxn_arguments.specs.declared.task.RunTask.{RunTask}
 use Rattle.uxn_arguments.specs.declared.task.Task.TheVariants as tasks
-use Rattle.uxn_task_files.specs.declared.refusal.Refusal.{Refusal}
-use Rattle.uxn_task_files.specs.Request.{request}
-use Rattle.uxn_task_files.specs.Writing.{filling_all}
+use Rattle.uxn_cli.specs.declared.task_files.refusal.Refusal.{Refusal}
+use Rattle.uxn_cli.specs.Request.{request}
+use Rattle.uxn_cli.specs.Writing.{filling_all}
 use Rattle.uxn_cli.specs.RunJob.{Debugging, RunJob, trace_of, log_texts}
 use Rattle.uxn_cli.specs.Verdict.{Work, Run}
 use Rattle.uxn_cli.specs.Outcome.{outcome_of, running, GivesOutcome}

@@ -7,12 +7,12 @@ use Rattle.uxn_io_traits.specs.AtPath.{contents_at}
 use Rattle.uxn_io_traits.specs.Files.{Nodes}
 use Rattle.uxn_io_traits.specs.Ended.{to_out, to_err, creating_all}
 use Rattle.uxn_io_traits.specs.Outside.{Change, World, changed_by}
-use Rattle.uxn_task_files.specs.declared.refusal.Refusal.{Refusal}
-use Rattle.uxn_task_files.specs.Statuses.{status_of}
-use Rattle.uxn_task_files.specs.Lines.{refusal_line}
+use Rattle.uxn_cli.specs.declared.task_files.refusal.Refusal.{Refusal}
+use Rattle.uxn_cli.specs.Statuses.{status_of}
+use Rattle.uxn_cli.specs.Lines.{refusal_line}
 use Rattle.vector_loop.specs.Trace.{Trace}
 use Rattle.text_lines.specs.declared.script.Version.{Version}
-use Rattle.uxn_task_files.specs.Writing.{filling_all, writing}
+use Rattle.uxn_cli.specs.Writing.{filling_all, writing}
 use Rattle.uxn_cli.specs.RunJob.{RunJob, job_outputs, trace_of, report_of, log_texts}
 use Rattle.uxn_line.specs.Streams.{LineJob, run_of_machine, stream, exit_code_at}
 use Rattle.uxn_line.specs.Moves.{last_machine}

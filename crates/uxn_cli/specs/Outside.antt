@@ -6,10 +6,10 @@ use Rattle.uxn_io_traits.specs.Taking.{WasNotGuaranteed}
 use Rattle.uxn_io_traits.specs.declared.sinks.Sink as sinks
 use Rattle.uxn_io_traits.specs.declared.trees.Tree as trees
 use Rattle.uxn_arguments.specs.declared.task.Task.{Task}
-use Rattle.uxn_task_files.specs.declared.refusal.Refusal.{Refusal}
-use Rattle.uxn_task_files.specs.declared.refusal.Halt.{Halt}
+use Rattle.uxn_cli.specs.declared.task_files.refusal.Refusal.{Refusal}
+use Rattle.uxn_cli.specs.declared.task_files.refusal.Halt.{Halt}
 use Rattle.uxn_cli.specs.Answer.{Performs}
-use Rattle.uxn_task_files.specs.Blame.{OnRefused, result_blame}
+use Rattle.uxn_cli.specs.Blame.{OnRefused, result_blame}
 use Rattle.uxn_cli.specs.Causes.{tree_verdict}
 use Rattle.uxn_cli.specs.Refused.{CountsRefusals}
 use Rattle.uxn_cli.specs.Outcome.{outcome_of}

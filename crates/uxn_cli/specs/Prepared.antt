@@ -14,9 +14,9 @@ use Rattle.uxn_arguments.specs.declared.task.DebugTask.{DebugTask}
 use Rattle.uxn_arguments.specs.declared.task.RunTask.{RunTask}
 use Rattle.uxn_arguments.specs.declared.task.Task.{Task}
 use Rattle.uxn_arguments.specs.declared.task.Task.TheVariants as tasks
-use Rattle.uxn_task_files.specs.Made.{Made}
-use Rattle.uxn_task_files.specs.Outputs.{paths_of}
-use Rattle.uxn_task_files.specs.declared.refusal.Halt.{Halt}
+use Rattle.uxn_cli.specs.Made.{Made}
+use Rattle.uxn_cli.specs.Outputs.{paths_of}
+use Rattle.uxn_cli.specs.declared.task_files.refusal.Halt.{Halt}
 use Rattle.uxn_line.specs.Streams.{clock_by}
 use Rattle.uxn_cli.specs.declared.playing.Prepared.{Prepared}
 use Rattle.uxn_cli.specs.declared.debugging.Session.{Session}

@@ -6,12 +6,12 @@ use Rattle.uxn_io_traits.specs.Known.{extended}
 use Rattle.uxn_io_traits.specs.State.{TreeState, SinkState}
 use Rattle.uxn_arguments.specs.declared.task.Task.{Task}
 use Rattle.uxn_arguments.specs.Options.{root_of}
-use Rattle.uxn_task_files.specs.declared.refusal.Refusal.{Refusal}
-use Rattle.uxn_task_files.specs.declared.refusal.Refusal.TheVariants.{NoOutput}
-use Rattle.uxn_task_files.specs.declared.refusal.Halt.{Halt}
-use Rattle.uxn_task_files.specs.declared.refusal.Halt.TheVariants.{Refused, Stopped}
-use Rattle.uxn_task_files.specs.Lines.{refusal_line}
-use Rattle.uxn_task_files.specs.Statuses.{IsEarly, IsRefusing, early_status}
+use Rattle.uxn_cli.specs.declared.task_files.refusal.Refusal.{Refusal}
+use Rattle.uxn_cli.specs.declared.task_files.refusal.Refusal.TheVariants.{NoOutput}
+use Rattle.uxn_cli.specs.declared.task_files.refusal.Halt.{Halt}
+use Rattle.uxn_cli.specs.declared.task_files.refusal.Halt.TheVariants.{Refused, Stopped}
+use Rattle.uxn_cli.specs.Lines.{refusal_line}
+use Rattle.uxn_cli.specs.Statuses.{IsEarly, IsRefusing, early_status}
 
 -- what is asked has no root
 abbrev pub HasNoRoot : Result Task Refusal → Type 0

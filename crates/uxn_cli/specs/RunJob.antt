@@ -15,13 +15,13 @@ use Rattle.vector_loop.specs.Trace.{Trace}
 use Rattle.vector_loop.specs.declared.output.Outputs.{Outputs}
 use Rattle.vector_loop.specs.Run.{run}
 use Rattle.tal_words.specs.declared.name.Label.{Label}
-use Rattle.debug_commands.specs.declared.command.DebugCommand.{DebugCommand}
+use Rattle.uxn_debugger.specs.declared.command.DebugCommand.{DebugCommand}
 use Rattle.uxn_debugger.specs.Log.{log_over}
 use Rattle.uxn_line.specs.Streams.{clock_by, exit_code_at}
 use Rattle.uxn_arguments.specs.Options.{run_outputs}
 use Rattle.uxn_arguments.specs.declared.task.DebugTask.{DebugTask}
 use Rattle.uxn_arguments.specs.declared.task.RunTask.{RunTask}
-use Rattle.uxn_task_files.specs.World.{Text, requested_output}
+use Rattle.uxn_cli.specs.World.{Text, requested_output}
 use Rattle.uxn_cli.specs.declared.running.RunEnd.{RunEnd}
 
 -- what a debugger does: what it is asked, its commands, and the labels that its log names

@@ -19,7 +19,7 @@ use Rattle.vector_loop.specs.Watch.{Page, page_in, moment_of, shown_all}
 use Rattle.vector_loop.specs.declared.watch.Moment.{Moment}
 use Rattle.uxn_arguments.specs.declared.task.RunTask.{RunTask}
 use Rattle.uxn_cli.specs.RunJob.{Debugging, RootView, wanted_outputs, reference_trace, run_end, log_texts}
-use Rattle.uxn_task_files.specs.Writing.{filling_all}
+use Rattle.uxn_cli.specs.Writing.{filling_all}
 use Rattle.uxn_cli.specs.Outcome.{reporting}
 use Rattle.uxn_cli.specs.declared.machine.Machine.{Machine}
 use Rattle.uxn_cli.specs.declared.running.RunEnd.{RunEnd}

@@ -4,8 +4,8 @@ use Rattle.uxn_io_traits.specs.Faults.{Counts, Rose}
 use Rattle.uxn_io_traits.specs.Outside.{World, changed_by}
 use Rattle.uxn_io_traits.specs.Known.{IsPrefixOf}
 use Rattle.uxn_io_traits.specs.AtPath.{contents_at, HoldsFilePrefix}
-use Rattle.uxn_task_files.specs.declared.refusal.Refusal.{Refusal}
-use Rattle.uxn_task_files.specs.Statuses.{IsEarly}
+use Rattle.uxn_cli.specs.declared.task_files.refusal.Refusal.{Refusal}
+use Rattle.uxn_cli.specs.Statuses.{IsEarly}
 use Rattle.uxn_cli.specs.Call.{Call, OfVerdict}
 use Rattle.uxn_cli.specs.Outcome.{outcome_of, IsOutputOf}
 use Rattle.uxn_cli.specs.Verdict.{Work}

@@ -5,12 +5,12 @@ use Rattle.uxn_limits.specs.declared.limits.TheConstants.{USUAL_BUDGET}
 use Rattle.tal_rom.specs.Assembly.{rom_of}
 use Rattle.tal_include.specs.Sources.{own_answer}
 use Rattle.uxn_io_traits.specs.Inquiry.{Inquiry, Answer, and_then, result_as}
-use Rattle.uxn_task_files.specs.declared.refusal.Refusal.{Refusal}
-use Rattle.uxn_task_files.specs.declared.refusal.Refusal.TheVariants.{Faulty, OtherEvents}
-use Rattle.uxn_task_files.specs.Accepted.{validated_script, GivenInputs, run_of, files_of}
-use Rattle.uxn_task_files.specs.Accepted.{disassembly_of, Machines, machines_of, free_outputs}
+use Rattle.uxn_cli.specs.declared.task_files.refusal.Refusal.{Refusal}
+use Rattle.uxn_cli.specs.declared.task_files.refusal.Refusal.TheVariants.{Faulty, OtherEvents}
+use Rattle.uxn_cli.specs.Accepted.{validated_script, GivenInputs, run_of, files_of}
+use Rattle.uxn_cli.specs.Accepted.{disassembly_of, Machines, machines_of, free_outputs}
 use Rattle.uxn_arguments.specs.Values.{then_steps}
-use Rattle.uxn_task_files.specs.World.{Text}
+use Rattle.uxn_cli.specs.World.{Text}
 use Rattle.uxn_line.specs.Streams.{LineJob, is_of_console}
 use Rattle.uxn_arguments.specs.Options.{outputs_of}
 use Rattle.uxn_arguments.specs.declared.task.DebugTask.{DebugTask}

@@ -9,11 +9,10 @@ ghost use Rattle.uxn_cli.specs.RunsFromRoot.{RunsFromRoot, RunFiles, task_trace,
 use super::host::Host;
 use super::machine::{Machine, core_known};
 use super::running::{RunEnd, run_made, write_text};
-use debug_commands::DebugCommand;
 use std::alloc::Global;
 use tal_words::Label;
 use uxn_arguments::{DebugTask, RunTask};
-use uxn_debugger::{Debugger, the_log_is_that_of_the_run};
+use uxn_debugger::{DebugCommand, Debugger, the_log_is_that_of_the_run};
 use uxn_io_traits::{Sink, Tree};
 use uxn_opcodes::Stop;
 use uxn_undo::Undo;

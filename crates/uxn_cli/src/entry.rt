@@ -1,8 +1,8 @@
 //! The top call, from the words to the status.
 ghost use Rattle.std.specs.Prelude.{◌≡◌, map, string_bytes};
-ghost use Rattle.uxn_task_files.specs.Request.{request};
-ghost use Rattle.uxn_task_files.specs.Blame.{as_step};
-ghost use Rattle.uxn_task_files.specs.Statuses.{early_status};
+ghost use Rattle.uxn_cli.specs.Request.{request};
+ghost use Rattle.uxn_cli.specs.Blame.{as_step};
+ghost use Rattle.uxn_cli.specs.Statuses.{early_status};
 ghost use Rattle.uxn_cli.specs.Call.{call, call_on};
 ghost use Rattle.uxn_cli.specs.Clauses.{HasItsOutcome, LeavesTheRest, HasStatuses, EndsEarlyByFaults, IsCutShort};
 ghost use Rattle.uxn_cli.specs.Clauses.{GivesTheSame, FailsNotWhereGuaranteed, ComesOut};
@@ -11,10 +11,10 @@ ghost use Rattle.uxn_cli.specs.Refused.{ReportsRefused};
 
 use super::host::Host;
 use super::work::carry_out;
+use crate::task_files::{Halt, request};
 use std::alloc::Global;
 use uxn_io_traits::{Sink, Tree};
 use uxn_opcodes::Stop;
-use uxn_task_files::{Halt, request};
 
 /// Does what the words ask for. Where it is refused its line is not put yet.
 fn perform<T: Tree, O: Sink, E: Sink>(

@@ -3,14 +3,14 @@ ghost use Rattle.std.specs.Prelude.{◌≡◌, ◌≤◌, [], Ok, codes, length,
 ghost use Rattle.uxn_limits.specs.declared.limits.TheConstants.{USUAL_BUDGET};
 ghost use Rattle.tal_rom.specs.Rom.{rom_limit};
 ghost use Rattle.uxn_arguments.specs.Values.{then_steps};
-ghost use Rattle.uxn_task_files.specs.Accepted.{validated_script};
+ghost use Rattle.uxn_cli.specs.Accepted.{validated_script};
 ghost use Rattle.uxn_line.specs.Streams.{run_of};
 ghost use Rattle.uxn_cli.specs.Workload.{HasRunAlone, workload_text};
 ghost use Rattle.tal_rom.specs.Assembly.{rom_of};
 ghost use Rattle.tal_include.specs.Sources.{own_answer};
 ghost use Rattle.uxn_io_traits.specs.Inquires.{Says};
 ghost use Rattle.uxn_io_traits.specs.Inquiry.{result_as};
-ghost use Rattle.uxn_task_files.specs.declared.refusal.Refusal.TheVariants.{Faulty};
+ghost use Rattle.uxn_cli.specs.declared.task_files.refusal.Refusal.TheVariants.{Faulty};
 ghost use Rattle.uxn_cli.specs.Verdict.{accepted_summary};
 
 use super::growing::GrowingSink;
@@ -19,6 +19,7 @@ use super::machine::new_machine;
 use super::making::workload_source;
 use super::running::{RunEnd, Settings, run_machine};
 use super::summary::Ran;
+use crate::task_files::{Refusal, validate_script};
 use std::alloc::{AllocError, Global};
 use tal_include::SourceFault;
 use tal_rom::assemble;
@@ -26,7 +27,6 @@ use tal_words::AsmStop;
 use text_lines::Script;
 use uxn_io_traits::{Halt, NoTree};
 use uxn_limits::limits;
-use uxn_task_files::{Refusal, validate_script};
 use vector_loop::{NoWatch, Outputs};
 
 /// The script of a workload.

@@ -2,16 +2,16 @@
 ghost use Rattle.std.specs.Prelude.{length, is_err};
 ghost use Rattle.std.specs.List.{All};
 ghost use Rattle.text_lines.specs.SetupLimits.{AreTurns};
-ghost use Rattle.uxn_task_files.specs.Puts.{Puts};
+ghost use Rattle.uxn_cli.specs.Puts.{Puts};
 ghost use Rattle.uxn_cli.specs.Joined.{IsRunnable, LineGoesOn, LineHasDone, job_of_joined};
 ghost use Rattle.uxn_cli.specs.Outcome.{line_bytes, line_exit};
 
+use crate::task_files::{Halt, LineInputs};
 use std::alloc::Global;
 use text_lines::Turns;
 use uxn_io_traits::{Failed, Sink};
 use uxn_line::Line;
 use uxn_opcodes::Stop;
-use uxn_task_files::{Halt, LineInputs};
 
 /// Gives the turns of a schedule, in order.
 fn follow<O: Sink>(line: &mut Line<'_>, schedule: &[Turns], out: &mut O) -> Result<(), Failed>

@@ -1,7 +1,7 @@
 //! Laws that tie what stands below to one another.
 ghost use Rattle.std.specs.Prelude.{◌≡◌, ℕ, List, Some, Ok, Err, Result};
 ghost use Rattle.uxn_io_traits.specs.Files.{Nodes};
-ghost use Rattle.uxn_task_files.specs.Request.{request};
+ghost use Rattle.uxn_cli.specs.Request.{request};
 ghost use Rattle.uxn_cli.specs.Verdict.{Work};
 ghost use Rattle.uxn_cli.specs.Call.{Call};
 ghost use Rattle.uxn_cli.specs.Causes.{tree_verdict};
@@ -10,13 +10,13 @@ ghost use Rattle.uxn_cli.specs.Truncated.{RaisesACount, LeavesPrefixes};
 ghost use Rattle.uxn_io_traits.specs.Along.{AgreeAlong};
 ghost use Rattle.uxn_io_traits.specs.Inquiry.{answer_in};
 ghost use Rattle.uxn_arguments.specs.declared.task.Task.{Task};
-ghost use Rattle.uxn_task_files.specs.Accepted.{source_of, first_source};
-ghost use Rattle.uxn_task_files.specs.declared.refusal.Refusal.{Refusal};
+ghost use Rattle.uxn_cli.specs.Accepted.{source_of, first_source};
+ghost use Rattle.uxn_cli.specs.declared.task_files.refusal.Refusal.{Refusal};
 ghost use Rattle.uxn_cli.specs.Verdict.{inquiry_of};
 ghost use Rattle.uxn_cli.specs.Observation.{OnlyWatches, HaveSameItems, ShowsWhatPlayDoes};
 
 /// 136 comes only where the tree's count of faults rose in the call, and 137 only where a sink's did: by the clause `early`.
-#[tactic(auto, using(uxn_task_files::proofs::StatusLemmas::tree_rose, uxn_task_files::proofs::StatusLemmas::sink_rose))]
+#[tactic(auto, using(crate::proofs::StatusLemmas::tree_rose, crate::proofs::StatusLemmas::sink_rose))]
 pub fn a_fault_raises_a_count()
     ensures { (c : Call) → EndsEarlyByFaults c → RaisesACount c.before.faults c.now.faults c.status }
 {}

@@ -14,6 +14,7 @@ mod playing;
 mod report;
 mod running;
 mod summary;
+mod task_files;
 mod work;
 
 pub use entry::uxn;

@@ -14,13 +14,13 @@ use super::generating::summarize;
 use super::host::Host;
 use super::joining::run_line;
 use super::playing::play;
+use crate::task_files::{
+    Halt, Refusal, assemble, disassemble_rom, print, read_machines, write_outputs,
+};
 use std::alloc::Global;
 use uxn_arguments::{AssembleTask, Task};
 use uxn_io_traits::{Halt as InquiryHalt, Path, Sink, Tree};
 use uxn_line::are_of_console;
-use uxn_task_files::{
-    Halt, Refusal, assemble, disassemble_rom, print, read_machines, write_outputs,
-};
 
 /// Writes the files of a source.
 fn write<T: Tree>(alloc: Global, task: &AssembleTask, tree: &mut T) -> Result<u8, Halt>

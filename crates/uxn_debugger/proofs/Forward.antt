@@ -3,8 +3,8 @@ use Rattle.std.proofs.Common.{◌≡◌, false, List, [], ◌∷◌, Option, inl
 use Rattle.std.specs.Prelude.{fold}
 use Rattle.std.specs.List.{list_any}
 use Rattle.std.proofs.lemmas.Bool.{cases_Bool, false≢true}
-use Rattle.debug_commands.specs.declared.command.DebugCommand.{DebugCommand}
-use Rattle.debug_commands.specs.declared.command.DebugCommand.TheVariants.{Step, Back}
+use Rattle.uxn_debugger.specs.declared.command.DebugCommand.{DebugCommand}
+use Rattle.uxn_debugger.specs.declared.command.DebugCommand.TheVariants.{Step, Back}
 use Rattle.uxn_debugger.specs.declared.place.Place.{Place}
 use Rattle.uxn_debugger.specs.declared.place.Goal.{Goal}
 use Rattle.uxn_debugger.specs.Printing.{MomentView}

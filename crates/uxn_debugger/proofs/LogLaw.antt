@@ -9,8 +9,8 @@ use Rattle.std.proofs.lemmas.Bool.Decides.{nat_tests}
 use Rattle.std.proofs.lemmas.List.{length-drop}
 use Rattle.tal_words.specs.declared.name.Label.{Label}
 use Rattle.uxn_undo.specs.Kept.{Kept}
-use Rattle.debug_commands.specs.declared.command.DebugCommand.{DebugCommand}
-use Rattle.debug_commands.specs.declared.command.DebugCommand.TheVariants.{Run, Step, Back}
+use Rattle.uxn_debugger.specs.declared.command.DebugCommand.{DebugCommand}
+use Rattle.uxn_debugger.specs.declared.command.DebugCommand.TheVariants.{Run, Step, Back}
 use Rattle.uxn_debugger.specs.declared.place.Place.{Place}
 use Rattle.uxn_debugger.specs.declared.place.Place.TheVariants.{Before, End}
 use Rattle.uxn_debugger.specs.declared.place.Goal.{Goal}

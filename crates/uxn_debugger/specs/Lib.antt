@@ -1,3 +1,6 @@
+pub mod CommandLines
+pub mod CommandTexts
+pub mod CommandKinds
 pub mod Printing
 pub mod Log
 pub mod Watching

@@ -13,8 +13,8 @@ use Rattle.vector_loop.specs.Watch.{Page, page_in, moment_of}
 use Rattle.uxn_undo.specs.Kept.{holding}
 use Rattle.uxn_undo.specs.Laws.{GivenMoments, kept_of}
 use Rattle.uxn_undo.specs.Runs.{InRow}
-use Rattle.debug_commands.specs.declared.command.DebugCommand.{DebugCommand}
-use Rattle.debug_commands.specs.declared.command.DebugCommand.TheVariants.{Break, Delete, Run, Step, Back}
+use Rattle.uxn_debugger.specs.declared.command.DebugCommand.{DebugCommand}
+use Rattle.uxn_debugger.specs.declared.command.DebugCommand.TheVariants.{Break, Delete, Run, Step, Back}
 use Rattle.uxn_debugger.specs.declared.place.Place.TheVariants.{Before, End}
 use Rattle.uxn_debugger.specs.Printing.{MomentView, view, printed}
 

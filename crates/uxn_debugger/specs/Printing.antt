@@ -10,8 +10,8 @@ use Rattle.tal_words.specs.declared.name.Label.{Label}
 use Rattle.tal_words.specs.Opcodes.{name_of_op}
 use Rattle.tal_symbols.specs.Lookups.{nearest_label}
 use Rattle.vector_loop.specs.declared.watch.Moment.{Moment}
-use Rattle.debug_commands.specs.declared.command.DebugCommand.{DebugCommand}
-use Rattle.debug_commands.specs.declared.command.DebugCommand.TheVariants.{Break, Delete, Run, Step, Back, Stacks, Mem, PortPage, Here}
+use Rattle.uxn_debugger.specs.declared.command.DebugCommand.{DebugCommand}
+use Rattle.uxn_debugger.specs.declared.command.DebugCommand.TheVariants.{Break, Delete, Run, Step, Back, Stacks, Mem, PortPage, Here}
 use Rattle.uxn_debugger.specs.declared.place.Place.{Place}
 use Rattle.uxn_debugger.specs.declared.place.Place.TheVariants.{Before, End}
 

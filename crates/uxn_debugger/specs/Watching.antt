@@ -14,8 +14,8 @@ use Rattle.vector_loop.specs.declared.output.Outputs.{Outputs}
 use Rattle.text_lines.specs.Scripts.{ScriptView}
 use Rattle.uxn_undo.specs.Row.{IsMachine}
 use Rattle.uxn_undo.specs.Kept.{Kept, kept_at, holding, byte_back}
-use Rattle.debug_commands.specs.declared.command.DebugCommand.{DebugCommand}
-use Rattle.debug_commands.specs.declared.command.DebugCommand.TheVariants.{Run, Step, Back}
+use Rattle.uxn_debugger.specs.declared.command.DebugCommand.{DebugCommand}
+use Rattle.uxn_debugger.specs.declared.command.DebugCommand.TheVariants.{Run, Step, Back}
 use Rattle.uxn_debugger.specs.declared.debugger.Debugger.{Debugger}
 use Rattle.uxn_debugger.specs.declared.place.Place.{Place}
 use Rattle.uxn_debugger.specs.declared.place.Place.TheVariants.{Before, End}

@@ -4,7 +4,7 @@ ghost use Rattle.std.specs.Prelude.{◌≡◌};
 ghost use Rattle.uxn_debugger.specs.Bits.{addresses_in};
 ghost use Rattle.uxn_debugger.specs.Log.{breaks_after, no_breaks, set_with_break, without_break};
 
-use debug_commands::DebugCommand;
+use crate::command::DebugCommand;
 
 /// How many words have a bit for each address.
 const WORDS: usize = 1024;

@@ -26,10 +26,10 @@ ghost use Rattle.uxn_debugger.specs.Watching.{
 };
 
 use crate::breaks::Breaks;
+use crate::command::DebugCommand;
 use crate::place::{Goal, Place};
 use crate::printing::{put_place, put_printed};
 use crate::scene::Scene;
-use debug_commands::DebugCommand;
 use std::alloc::{AllocError, Global};
 use tal_symbols::Label;
 use uxn_opcodes::{Core, Ports};

@@ -2,10 +2,14 @@
 #![tactic(auto)]
 
 mod breaks;
+mod command;
+mod command_line;
 mod debugger;
 mod place;
 mod printing;
+mod reading;
 mod scene;
 
-pub use debug_commands::{CommandKind, CommandStop, DebugCommand, read_commands};
+pub use command::{CommandKind, CommandStop, DebugCommand};
 pub use debugger::{Debugger, the_log_is_that_of_the_run};
+pub use reading::read_commands;

@@ -19,9 +19,9 @@ ghost use Rattle.uxn_debugger.specs.Printing.{
 ghost use Rattle.uxn_debugger.specs.Scenes.{view_in};
 ghost use Rattle.uxn_debugger.specs.declared.place.Place.TheVariants.{Before};
 
+use crate::command::DebugCommand;
 use crate::place::Place;
 use crate::scene::Scene;
-use debug_commands::DebugCommand;
 use std::alloc::AllocError;
 use system_port::debug_text;
 use tal_symbols::{Label, nearest};

@@ -28,30 +28,58 @@ pub use Rattle.uxn_arguments.specs.declared.task.DebugTask.{DebugTask}
 pub use Rattle.uxn_arguments.specs.declared.task.RunTask.{RunTask}
 pub use Rattle.uxn_arguments.specs.declared.task.Task.{Task}
 pub use Rattle.uxn_arguments.specs.declared.task.Task.TheVariants as tasks
+pub use Rattle.uxn_cli.proofs.AnswerLemmas.{plays-given, run-refused, files-refused, same_ok}
+pub use Rattle.uxn_cli.proofs.DidLemmas.{refused-then}
+pub use Rattle.uxn_cli.proofs.GivesLemmas.{IsOfInputs, AsksFor, asks-then, asked-then, run-asked, disassembly-asked, machines-asked}
+pub use Rattle.uxn_cli.proofs.GivesLemmas.{files-asked, outputs-asked, then-given, source-given, script-given}
+pub use Rattle.uxn_cli.proofs.OutputLemmas.{observed_paths}
+pub use Rattle.uxn_cli.proofs.PlaceLemmas.{meets_parts, all-apart, apart-outside, outputs-outside, log-outside}
+pub use Rattle.uxn_cli.proofs.StatusLemmas.{refuses-no-exit, exit-not-early, refusal-not-early, blame_early, blameless, tree_rose, sink_rose}
+pub use Rattle.uxn_cli.proofs.WordLemmas.{requested_apart, requests-both}
+pub use Rattle.uxn_cli.proofs.WritingLemmas.{Fills, creating-keeps, filling-keeps, text-keeps, made-of-tree, filled-of-tree, written-of-tree}
+pub use Rattle.uxn_cli.specs.Accepted.{free_outputs, first_source}
+unfoldable pub use Rattle.uxn_cli.specs.Accepted.{run_of, files_of, disassembly_of, machines_of, free_output, source_of}
 pub use Rattle.uxn_cli.specs.Answer.{HasUnknownContents, HasOutcome, HasDone, HasDoneWork, MayRunOut, MayStop, AnswersCall, Performs}
+pub use Rattle.uxn_cli.specs.Blame.{stop_blame, status_blame, as_step, halted_by_tree, result_blame, OnRefused, halt_of_inquiry}
 pub use Rattle.uxn_cli.specs.Call.{Call, call_request, step_status}
 pub use Rattle.uxn_cli.specs.Causes.{tree_verdict, EndsWith, IsExactly, PutsLine, IsAside, KeepsOthers}
 pub use Rattle.uxn_cli.specs.Clauses.{HasStatuses, EndsEarlyByFaults, IsCutShort, ComesOut, LeavesTheRest, GivesTheSame}
+pub use Rattle.uxn_cli.specs.Held.{model_of_program}
 pub use Rattle.uxn_cli.specs.Isolation.{LookSame, GivesAsOn}
 pub use Rattle.uxn_cli.specs.Joined.{LineGoesOn, job_of_joined, LineHasDone, joined_plan}
+pub use Rattle.uxn_cli.specs.Lines.{refusal_line, refusal_text}
+pub use Rattle.uxn_cli.specs.Made.{MakesOutputs, WritesOutputs, AreFree, Refuses, EndsMaking}
 pub use Rattle.uxn_cli.specs.Observation.{unwatched, watched, with_log, HaveSameItems, ComeToOneRun, ShowsWhatPlayDoes}
 pub use Rattle.uxn_cli.specs.Outcome.{line_exit, Outcome, outcome_of, reporting, run_changes, line_bytes, written_paths, root_of_work, IsOutputOf, GivesOutcome}
 unfoldable pub use Rattle.uxn_cli.specs.Outcome.{running}
+pub use Rattle.uxn_cli.specs.Outputs.{paths_of, observed_texts}
 pub use Rattle.uxn_cli.specs.Outside.{DoesWork, HostState, host_state, observed_outside}
 pub use Rattle.uxn_cli.specs.Prepared.{IsPlanned, AreNew, IsPreparedRun, prepared_debugging, prepared_job, prepared_plan, printed_plan}
+pub use Rattle.uxn_cli.specs.Puts.{Puts}
 pub use Rattle.uxn_cli.specs.Refused.{HasNoRoot, AtMostOne, CountsRefusals, ReportsRefused}
+pub use Rattle.uxn_cli.specs.Request.{request}
 pub use Rattle.uxn_cli.specs.RunJob.{trace_of, RunJob, job_outputs, first_state, log_texts, RootView, Debugging, debugging, first_devices}
 pub use Rattle.uxn_cli.specs.RunJob.{root_view_in, no_root_view, common_lines, wanted_outputs, run_end}
 unfoldable pub use Rattle.uxn_cli.specs.RunJob.{reference_trace, report_text}
 pub use Rattle.uxn_cli.specs.RunsFromRoot.{AtRootView, RunFiles, RunsFromRoot, RunsOverOutside, blame_if, task_trace, logged_changes}
+pub use Rattle.uxn_cli.specs.Statuses.{early_status, IsRefusedWith, IsEarly, status_of, IsRefusing}
+pub use Rattle.uxn_cli.specs.Summary.{summary_text}
 pub use Rattle.uxn_cli.specs.Truncated.{HoldsPrefixes, LeavesPrefixes}
 pub use Rattle.uxn_cli.specs.Verdict.{Work, Run, Write, Print, RunLine, accepted_summary, Plan, plan_of, inquiry_of, run_plan, planned, line_job}
 pub use Rattle.uxn_cli.specs.Verdict.{run_job, given_debugging}
 unfoldable pub use Rattle.uxn_cli.specs.Verdict.{run_plan_of, line_plan_of, work_of}
 pub use Rattle.uxn_cli.specs.Workload.{lone_trace, HasRunAlone, run_summary}
 unfoldable pub use Rattle.uxn_cli.specs.Workload.{workload_text}
+pub use Rattle.uxn_cli.specs.World.{Text, world, requested_output}
+pub use Rattle.uxn_cli.specs.Writing.{filling_all}
+unfoldable pub use Rattle.uxn_cli.specs.Writing.{writing}
 pub use Rattle.uxn_cli.specs.declared.playing.Prepared.{Prepared}
 pub use Rattle.uxn_cli.specs.declared.running.RunEnd.{RunEnd}
+pub use Rattle.uxn_cli.specs.declared.task_files.assembling.Written.{Written}
+pub use Rattle.uxn_cli.specs.declared.task_files.refusal.Halt.{Halt}
+pub use Rattle.uxn_cli.specs.declared.task_files.refusal.Halt.TheVariants.{Refused, Stopped}
+pub use Rattle.uxn_cli.specs.declared.task_files.refusal.Refusal.{Refusal}
+pub use Rattle.uxn_cli.specs.declared.task_files.refusal.Refusal.TheVariants.{OtherEvents, NoOutput}
 pub use Rattle.uxn_debugger.specs.Log.{log_over}
 pub use Rattle.uxn_debugger.specs.Watching.{Watching}
 pub use Rattle.uxn_io_traits.specs.Along.{AgreeAlong}
@@ -95,34 +123,6 @@ pub use Rattle.uxn_opcodes.specs.Ports.{result_blame as blame_of_result}
 pub use Rattle.uxn_opcodes.specs.Rule.{new_core}
 pub use Rattle.uxn_opcodes.specs.declared.Stop.{Stop}
 pub use Rattle.uxn_opcodes.specs.declared.Stop.TheVariants.{TreeFault, SinkFault, NoMemory}
-pub use Rattle.uxn_task_files.proofs.AnswerLemmas.{plays-given, run-refused, files-refused, same_ok}
-pub use Rattle.uxn_task_files.proofs.DidLemmas.{refused-then}
-pub use Rattle.uxn_task_files.proofs.GivesLemmas.{IsOfInputs, AsksFor, asks-then, asked-then, run-asked, disassembly-asked, machines-asked}
-pub use Rattle.uxn_task_files.proofs.GivesLemmas.{files-asked, outputs-asked, then-given, source-given, script-given}
-pub use Rattle.uxn_task_files.proofs.OutputLemmas.{observed_paths}
-pub use Rattle.uxn_task_files.proofs.PlaceLemmas.{meets_parts, all-apart, apart-outside, outputs-outside, log-outside}
-pub use Rattle.uxn_task_files.proofs.StatusLemmas.{refuses-no-exit, exit-not-early, refusal-not-early, blame_early, blameless, tree_rose, sink_rose}
-pub use Rattle.uxn_task_files.proofs.WordLemmas.{requested_apart, requests-both}
-pub use Rattle.uxn_task_files.proofs.WritingLemmas.{Fills, creating-keeps, filling-keeps, text-keeps, made-of-tree, filled-of-tree, written-of-tree}
-pub use Rattle.uxn_task_files.specs.Accepted.{free_outputs, first_source}
-unfoldable pub use Rattle.uxn_task_files.specs.Accepted.{run_of, files_of, disassembly_of, machines_of, free_output, source_of}
-pub use Rattle.uxn_task_files.specs.Blame.{stop_blame, status_blame, as_step, halted_by_tree, result_blame, OnRefused, halt_of_inquiry}
-pub use Rattle.uxn_task_files.specs.Held.{model_of_program}
-pub use Rattle.uxn_task_files.specs.Lines.{refusal_line, refusal_text}
-pub use Rattle.uxn_task_files.specs.Made.{MakesOutputs, WritesOutputs, AreFree, Refuses, EndsMaking}
-pub use Rattle.uxn_task_files.specs.Outputs.{paths_of, observed_texts}
-pub use Rattle.uxn_task_files.specs.Puts.{Puts}
-pub use Rattle.uxn_task_files.specs.Request.{request}
-pub use Rattle.uxn_task_files.specs.Statuses.{early_status, IsRefusedWith, IsEarly, status_of, IsRefusing}
-pub use Rattle.uxn_task_files.specs.World.{Text, world, requested_output}
-pub use Rattle.uxn_task_files.specs.Writing.{filling_all}
-unfoldable pub use Rattle.uxn_task_files.specs.Writing.{writing}
-pub use Rattle.uxn_task_files.specs.declared.assembling.Written.{Written}
-pub use Rattle.uxn_task_files.specs.declared.refusal.Halt.{Halt}
-pub use Rattle.uxn_task_files.specs.declared.refusal.Halt.TheVariants.{Refused, Stopped}
-pub use Rattle.uxn_task_files.specs.declared.refusal.Refusal.{Refusal}
-pub use Rattle.uxn_task_files.specs.declared.refusal.Refusal.TheVariants.{OtherEvents, NoOutput}
-pub use Rattle.uxn_cli.specs.Summary.{summary_text}
 pub use Rattle.varvara_bus.proofs.Appends.{appended-stays}
 pub use Rattle.varvara_bus.specs.Bus.{IsOutside, BusRepresents, FilesStay, IsFileWhereKnown, contents_on}
 pub use Rattle.varvara_bus.specs.State.{HasFiles}
