@@ -1,4 +1,4 @@
-//! The debugger: a watcher that does commands during a run and keeps a log.
+//! The debugger: texts of commands, and a watcher that does them during a run and keeps a log.
 #![tactic(auto)]
 
 mod breaks;
