@@ -1,6 +1,7 @@
 //! A call of the program over a tree and outputs in memory, and whether it gives what it is to give.
 
 use std::alloc::{AllocError, Global};
+use std::process::Abort;
 use uxn_cli::uxn;
 use uxn_io::{Bytes, MemSink, MemTree, Node, Path, TreeCall};
 
@@ -109,7 +110,7 @@ fn ends(alloc: Global, call: &Call, words: &[String], tree: &mut MemTree) -> boo
 }
 
 /// Whether a call gives what it is to give.
-pub fn gives(alloc: Global, call: &Call) -> bool {
+fn gives(alloc: Global, call: &Call) -> bool {
     let Ok(words) = texts(alloc, call.words) else {
         return false;
     };
@@ -117,4 +118,12 @@ pub fn gives(alloc: Global, call: &Call) -> bool {
         return false;
     };
     ends(alloc, call, &words, &mut tree) && stands(&tree, call.after)
+}
+
+/// Each call gives what its row says.
+pub fn give_each(rt: &impl Abort, alloc: Global, calls: &[Call]) {
+    for call in calls {
+        let shows = call.shows;
+        assert!(rt; gives(alloc, call), "{shows}");
+    }
 }

@@ -1,6 +1,6 @@
 //! Where a call of the tree or of an output fails: the status, what both outputs hold, and what stands in the tree.
 
-use super::calls::{ALL, Call, Contents, GOOD, Puts, gives};
+use super::calls::{ALL, Call, Contents, GOOD, Puts, give_each};
 use uxn_io::TreeCall;
 
 /// A source that puts a byte on each output.
@@ -404,24 +404,15 @@ static DEVICES: [Call; 9] = [
 
 #[test]
 fn a_fault_of_an_output_ends_a_call(rt: HostRuntime) {
-    for call in &OUTPUTS {
-        let shows = call.shows;
-        assert!(rt; gives(rt.alloc(), call), "{shows}");
-    }
+    give_each(&rt, rt.alloc(), &OUTPUTS);
 }
 
 #[test]
 fn a_fault_of_a_file_ends_a_call(rt: HostRuntime) {
-    for call in &FILES {
-        let shows = call.shows;
-        assert!(rt; gives(rt.alloc(), call), "{shows}");
-    }
+    give_each(&rt, rt.alloc(), &FILES);
 }
 
 #[test]
 fn a_fault_of_a_file_device_ends_a_call(rt: HostRuntime) {
-    for call in &DEVICES {
-        let shows = call.shows;
-        assert!(rt; gives(rt.alloc(), call), "{shows}");
-    }
+    give_each(&rt, rt.alloc(), &DEVICES);
 }

@@ -1,8 +1,6 @@
 //! Each option of each command once, where nothing fails: the call is done, and so memory did not run out, and this is what it leaves.
 
-use super::calls::{Call, Contents, GOOD, gives};
-use std::alloc::Global;
-use std::process::Abort;
+use super::calls::{Call, Contents, GOOD, give_each};
 
 /// A source that puts a byte, its ROM, its symbols, and commands that show the first moment.
 const PUTS: Contents = &[
@@ -338,14 +336,6 @@ static OTHERS: [Call; 7] = [
         ..GOOD
     },
 ];
-
-/// Each call gives what its row says.
-fn give_each(rt: &impl Abort, alloc: Global, calls: &[Call]) {
-    for call in calls {
-        let shows = call.shows;
-        assert!(rt; gives(alloc, call), "{shows}");
-    }
-}
 
 #[test]
 fn each_option_of_play_is_done(rt: HostRuntime) {

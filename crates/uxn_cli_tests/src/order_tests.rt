@@ -1,6 +1,6 @@
 //! An input is not touched before the one before it was accepted: where it is refused, a fault of the next one does not come.
 
-use super::calls::{Call, Contents, GOOD, gives};
+use super::calls::{Call, Contents, GOOD, give_each};
 use uxn_io::TreeCall;
 
 /// The fault of the first call for the second file of a command.
@@ -277,8 +277,5 @@ static CALLS: [Call; 22] = [
 
 #[test]
 fn an_input_is_not_touched_before_the_one_before_it_was_accepted(rt: HostRuntime) {
-    for call in &CALLS {
-        let shows = call.shows;
-        assert!(rt; gives(rt.alloc(), call), "{shows}");
-    }
+    give_each(&rt, rt.alloc(), &CALLS);
 }

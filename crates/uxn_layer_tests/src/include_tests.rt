@@ -304,6 +304,18 @@ fn letters(alloc: Global, size: usize) -> Result<Vec<u8>, AllocError> {
     Ok(bytes)
 }
 
+/// The fault of a source at `a.tal` over a tree, or None where it is spliced to so many bytes.
+fn fault_of(alloc: Global, tree: &mut MemTree, source: &[u8], size: usize) -> Option<IncludeKind> {
+    let Ok(main) = Path::read(b"a.tal") else {
+        return Some(IncludeKind::BadPath);
+    };
+    match splice(alloc, tree, &main, source) {
+        Ok(flat) if flat.text().len() == size => None,
+        Err(SpliceStop::Refused(fault)) => Some(fault.kind),
+        _ => Some(IncludeKind::BadPath),
+    }
+}
+
 /// Over a tree with a file of so many bytes: the fault of a source, or None where it is spliced to these bytes alone.
 fn fault_over(
     alloc: Global,
@@ -316,19 +328,11 @@ fn fault_over(
         let folder = false;
         nodes.push((path, Node { folder, bytes }))?;
     }
-    if let (true, Ok(main)) = (MemTree::can_hold(&nodes, size), Path::read(b"a.tal")) {
-        let mut tree = MemTree::new(alloc, &nodes, 0, size, &[])?;
-        let answer = splice(alloc, &mut tree, &main, source);
-        if let Err(SpliceStop::Refused(fault)) = &answer {
-            return Ok(Some(fault.kind));
-        }
-        if let Ok(flat) = &answer {
-            if flat.text().len() == size {
-                return Ok(None);
-            }
-        }
+    if !MemTree::can_hold(&nodes, size) {
+        return Ok(Some(IncludeKind::BadPath));
     }
-    Ok(Some(IncludeKind::BadPath))
+    let mut tree = MemTree::new(alloc, &nodes, 0, size, &[])?;
+    Ok(fault_of(alloc, &mut tree, source, size))
 }
 
 #[test]

@@ -1,6 +1,6 @@
 //! Tests of calls of the lower crates that no command reaches, or whose answers none shows: the sinks and trees in memory, the
 //! kinds of faults of paths, how many words an expander visited, what a patcher tells, which rows of a screen are composed, printed
-//! scripts, includes, moments gone back to, and the turns of machines in a line.
+//! scripts, the lines of a text, includes, moments gone back to, and the turns of machines in a line.
 #![tactic(auto)]
 
 #[cfg(test)]

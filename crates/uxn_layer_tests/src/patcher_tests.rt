@@ -1,5 +1,8 @@
 //! What a patcher tells after each word that it is given.
 
+ghost use Rattle.std.specs.Prelude.{◌≡◌, ◌<◌, IfOk, length, true};
+ghost use Rattle.tal_rom.specs.Passing.{IsOnItsWay};
+
 use std::alloc::Global;
 use tal_labels::Placer;
 use tal_macros::Expander;
@@ -47,25 +50,52 @@ fn tells(patcher: &Patcher, (waiting, fits, bytes): &Known) -> bool {
     patcher.waiting() == *waiting && patcher.fits() == *fits && shows(patcher.image(), bytes)
 }
 
+/// Hands the next word of a source on to a patcher. Says whether there is one and it has its place.
+fn hand_on(
+    source: &[u8],
+    expander: &mut Expander,
+    placer: &mut Placer,
+    patcher: &mut Patcher,
+) -> Result<bool, AsmStop>
+    requires short { length source.now < 4294967296 }
+    requires so { IsOnItsWay source.now expander.old placer.old patcher.old }
+    ensures { IfOk result (λ is_placed. is_placed ≡ true → IsOnItsWay source.now expander.new placer.new patcher.new) }
+{
+    if let Some(word) = expander.next()? {
+        if let Some(placed) = placer.add(source, word)? {
+            patcher.add(source, &placed)?;
+            return Ok(true);
+        }
+    }
+    Ok(false)
+}
+
+/// Whether a patcher tells this after each of the next words of a source.
+fn tells_in_turn(
+    source: &[u8],
+    expander: &mut Expander,
+    placer: &mut Placer,
+    patcher: &mut Patcher,
+    steps: &[Known],
+) -> Result<bool, AsmStop>
+    requires short { length source.now < 4294967296 }
+    requires so { IsOnItsWay source.now expander.old placer.old patcher.old }
+{
+    for contents in steps {
+        if !hand_on(source, expander, placer, patcher)? || !tells(patcher, contents) {
+            return Ok(false);
+        }
+    }
+    Ok(true)
+}
+
 /// Whether a patcher tells this after each of the first words of a source.
 fn is_patched(alloc: Global, source: &[u8], steps: &[Known]) -> Result<bool, AsmStop> {
     let words = words(alloc, source)?;
     let mut expander = Expander::new(alloc, source, &words);
     let mut placer = Placer::new(alloc);
     let mut patcher = Patcher::new(alloc)?;
-    for contents in steps {
-        let Some(word) = expander.next()? else {
-            return Ok(false);
-        };
-        let Some(placed) = placer.add(source, word)? else {
-            return Ok(false);
-        };
-        patcher.add(source, &placed)?;
-        if !tells(&patcher, contents) {
-            return Ok(false);
-        }
-    }
-    Ok(true)
+    tells_in_turn(source, &mut expander, &mut placer, &mut patcher, steps)
 }
 
 #[test]

@@ -1,9 +1,10 @@
-//! The plain text of each line of a script, and drawn scripts that are printed as they are read.
+//! The plain text of each line of a script, drawn scripts that are printed as they are read, and how many lines a text has.
 
-ghost use Rattle.std.specs.Prelude.{◌<◌};
+ghost use Rattle.std.specs.Prelude.{◌<◌, length};
 
 use play_script::{print_script, read_script};
 use std::alloc::{AllocError, Global};
+use text_lines::Lines;
 use uxn_io::decimal;
 
 // Texts and their plain texts.
@@ -188,5 +189,29 @@ fn drawn_scripts_of_both_versions_are_printed_as_they_are_read(rt: HostRuntime) 
     for seed in 0..100u32 {
         assert!(rt; goes_round(rt.alloc(), 1, seed), "at {seed} in version 1");
         assert!(rt; goes_round(rt.alloc(), 2, seed), "at {seed} in version 2");
+    }
+}
+
+/// Texts, each with how many lines it has: what stands behind the last newline is one too, even if it is nothing.
+static COUNTS: [(&[u8], u32); 5] = [(b"", 1), (b"a", 1), (b"a\n", 2), (b"a\nb", 2), (b"\n\n", 3)];
+
+/// How many lines a short text has, up to ten.
+fn count_lines(text: &[u8]) -> u32
+    requires { length text.now < 10 }
+{
+    let mut lines = Lines::new(text);
+    for _ in 0..10 {
+        lines.next_line();
+    }
+    lines.number()
+}
+
+#[test]
+fn the_empty_line_at_the_end_is_counted(rt: HostRuntime) {
+    for (text, count) in &COUNTS {
+        assert!(rt;
+            text.len() < 10 && count_lines(text) == *count,
+            "at {text:?}"
+        );
     }
 }
