@@ -1,4 +1,4 @@
-//! What a patcher tells after each word that it is given.
+//! What a patcher tells after each word that it is given, and whether a placer has a place for all words then.
 
 ghost use Rattle.std.specs.Prelude.{◌≡◌, ◌<◌, IfOk, length, true};
 ghost use Rattle.tal_rom.specs.Passing.{IsOnItsWay};
@@ -12,9 +12,9 @@ use tal_words::{AsmStop, words};
 /// What a patcher tells: how many words wait, whether all fit, and its image without the zeros at the end.
 type Known = (u32, bool, &'static [u8]);
 
-/// Sources, each with what a patcher tells after each of its words: a reference that waits for its label, one that
-/// cannot reach it, and a lambda.
-static PATCHED: [(&[u8], &[Known]); 3] = [
+/// Sources, each with what a patcher tells after each of its words, and whether it has no fault of its places: a reference
+/// that waits for its label, one that cannot reach it, a lambda, and a lambda that stays open.
+static PATCHED: [(&[u8], &[Known], bool); 4] = [
     (
         b";x @x INC",
         &[
@@ -22,10 +22,12 @@ static PATCHED: [(&[u8], &[Known]); 3] = [
             (0, true, &[0xa0, 0x01, 0x03]),
             (0, true, &[0xa0, 0x01, 0x03, 0x01]),
         ],
+        true,
     ),
     (
         b",x $81 @x",
         &[(1, true, b""), (1, true, b""), (0, false, b"")],
+        true,
     ),
     (
         b"?{ 03 }",
@@ -34,6 +36,12 @@ static PATCHED: [(&[u8], &[Known]); 3] = [
             (1, true, &[0, 0, 0, 0x03]),
             (0, true, &[0x20, 0x00, 0x01, 0x03]),
         ],
+        true,
+    ),
+    (
+        b"{ 03",
+        &[(1, true, b""), (1, true, &[0, 0, 0, 0x03])],
+        false,
     ),
 ];
 
@@ -89,20 +97,26 @@ fn tells_in_turn(
     Ok(true)
 }
 
-/// Whether a patcher tells this after each of the first words of a source.
-fn is_patched(alloc: Global, source: &[u8], steps: &[Known]) -> Result<bool, AsmStop> {
+/// Whether a patcher tells this after each of the first words of a source, and a placer then has no fault, as it is wanted.
+fn is_patched(
+    alloc: Global,
+    source: &[u8],
+    steps: &[Known],
+    is_whole: bool,
+) -> Result<bool, AsmStop> {
     let words = words(alloc, source)?;
     let mut expander = Expander::new(alloc, source, &words);
     let mut placer = Placer::new(alloc);
     let mut patcher = Patcher::new(alloc)?;
-    tells_in_turn(source, &mut expander, &mut placer, &mut patcher, steps)
+    let tells = tells_in_turn(source, &mut expander, &mut placer, &mut patcher, steps)?;
+    Ok(tells && placer.finish().is_some() == is_whole)
 }
 
 #[test]
 fn patchers_fill_each_reference_as_its_target_comes(rt: HostRuntime) {
-    for (source, steps) in &PATCHED {
+    for (source, steps, is_whole) in &PATCHED {
         assert!(rt;
-            matches!(is_patched(rt.alloc(), source, steps), Ok(true)),
+            matches!(is_patched(rt.alloc(), source, steps, *is_whole), Ok(true)),
             "at {source:?}"
         );
     }
