@@ -1,0 +1,463 @@
+"""The files that tools read and write. Nothing else in the tools opens, makes, copies or deletes one.
+
+A file is read if it is a regular one, also through a link, up to the limit of its kind: the open of a pipe does not
+wait. What is written, copied as a root or deleted is reached without following a link. A path is taken apart for
+that: an absolute one, and `..` at the beginning, name a folder that the user trusts; no later name may be a link.
+With `beneath` that folder is trusted, and the whole path lies in it."""
+from __future__ import annotations
+
+import errno
+import os
+import shutil
+import sqlite3
+import stat
+import sys
+import tempfile
+from collections.abc import Iterator
+from contextlib import contextmanager, suppress
+from dataclasses import dataclass, field
+from functools import lru_cache
+from typing import IO, NamedTuple
+
+MEBIBYTE = 1 << 20
+MOST_INPUT = 4_194_304
+# How many files and folders a root has at most, how many bytes they have together, and how deep they lie.
+MOST_FILES = 65_536
+MOST_BYTES = 256 * MEBIBYTE
+MOST_DEPTH = 64
+
+
+class Kind(NamedTuple):
+    """A kind of file: how many bytes it has at most, and what the program says past that, with its status."""
+
+    most: int
+    word: str = "Long"
+    status: int = 1
+
+
+SOURCE = Kind(MOST_INPUT, "LongSource", 131)
+SCRIPT = Kind(MOST_INPUT, "LongScript", 132)
+COMMANDS = Kind(MOST_INPUT, "LongCommands", 133)
+SETUP = Kind(MOST_INPUT, "LongSetup", 139)
+ROM = Kind(1_048_320, "rom", 134)
+SYMBOLS = Kind(16_777_216, "Long", 134)
+SETTINGS = Kind(MEBIBYTE)
+# An output of a run: pictures, samples, a text, a log, or a file of its root.
+OUTPUT = Kind(64 * MEBIBYTE)
+# What `uxn asm` makes of the longest source: a listing, or a symbol file of long names.
+MADE = Kind(512 * MEBIBYTE)
+
+
+class Refused(OSError):
+    """A file that is not read or written: why, and the status of the program for it."""
+
+    def __init__(self, path: str, why: str, status: int = 1) -> None:
+        super().__init__(errno.EINVAL, why, path)
+        self.status = status
+
+
+def kind_of(mode: int) -> str:
+    """What a name is, in words."""
+    if stat.S_ISLNK(mode):
+        return "a symbolic link"
+    if stat.S_ISDIR(mode):
+        return "a folder"
+    if stat.S_ISFIFO(mode):
+        return "a named pipe"
+    if stat.S_ISSOCK(mode):
+        return "a socket"
+    return "a file" if stat.S_ISREG(mode) else "a device"
+
+
+def _refuse_kind(path: str, mode: int) -> None:
+    if stat.S_ISDIR(mode):
+        raise IsADirectoryError(errno.EISDIR, os.strerror(errno.EISDIR), path)
+    if not stat.S_ISREG(mode):
+        raise Refused(path, f"missing: it is {kind_of(mode)}, and no regular file", 130)
+
+
+def _refuse_size(path: str, size: int, kind: Kind) -> None:
+    if size > kind.most:
+        raise Refused(path, f"{kind.word}: it has more than {kind.most:,} bytes", kind.status)
+
+
+def read(path: str, kind: Kind = SOURCE) -> bytes:
+    """The bytes of a regular file. One whose size is 0 has none: what a file of the system's own would give is not
+    waited for."""
+    _refuse_kind(path, os.stat(path).st_mode)
+    handle = os.open(path, os.O_RDONLY | os.O_NONBLOCK | os.O_NOCTTY | os.O_CLOEXEC)
+    try:
+        return _read_handle(handle, path, kind)
+    finally:
+        os.close(handle)
+
+
+def _read_handle(handle: int, path: str, kind: Kind) -> bytes:
+    found = os.fstat(handle)
+    _refuse_kind(path, found.st_mode)
+    _refuse_size(path, found.st_size, kind)
+    parts, left = [], found.st_size
+    while left and (part := os.read(handle, left)):
+        parts.append(part)
+        left -= len(part)
+    return parts[0] if len(parts) == 1 else b"".join(parts)
+
+
+def read_start(path: str, count: int) -> bytes:
+    """The first bytes of a regular file of any size."""
+    _refuse_kind(path, os.stat(path).st_mode)
+    handle = os.open(path, os.O_RDONLY | os.O_NONBLOCK | os.O_CLOEXEC)
+    try:
+        return os.read(handle, count)
+    finally:
+        os.close(handle)
+
+
+def read_input(most: int = 64 * MEBIBYTE) -> bytes:
+    """The standard input up to its end."""
+    data = sys.stdin.buffer.read(most + 1)
+    if len(data) > most:
+        raise Refused("the standard input", f"it has more than {most:,} bytes")
+    return data
+
+
+def is_file(path: str) -> bool:
+    """Whether a path leads to a regular file."""
+    with suppress(OSError, ValueError):
+        return stat.S_ISREG(os.stat(path).st_mode)
+    return False
+
+
+# Folders that are opened without following a link.
+
+
+def _parts(path: str, beneath: str | None) -> tuple[str, list[str]]:
+    """The folder that is trusted, and the names from there on."""
+    if beneath is not None:
+        names = [name for name in path.split("/") if name not in ("", ".")]
+        if path.startswith("/") or ".." in names or not names:
+            raise Refused(path, f"it is no path beneath {beneath or '.'}")
+        return beneath or ".", names
+    if os.path.isabs(path):
+        path = os.path.normpath(path)
+        return os.path.dirname(path), [os.path.basename(path) or "."]
+    names = os.path.normpath(path).split("/")
+    above = next((at for at, name in enumerate(names) if name != ".."), len(names))
+    return "/".join(names[:above]) or ".", names[above:] or ["."]
+
+
+def _open_folder(name: str, above: int | None, shown: str) -> int:
+    flags = os.O_RDONLY | os.O_DIRECTORY | os.O_CLOEXEC | (0 if above is None else os.O_NOFOLLOW)
+    try:
+        return os.open(name, flags, dir_fd=above)
+    except OSError as error:
+        if error.errno in (errno.ELOOP, errno.ENOTDIR) and above is not None:
+            mode = os.stat(name, dir_fd=above, follow_symlinks=False).st_mode
+            raise Refused(shown, f"it is {kind_of(mode)}, and no folder") from None
+        raise OSError(error.errno, error.strerror, shown) from None
+
+
+@contextmanager
+def _above(path: str, beneath: str | None, makes: bool = False) -> Iterator[tuple[int, str]]:
+    """The opened folder that a path lies in, and its last name. Folders on the way may be made."""
+    base, names = _parts(path, beneath)
+    handle, shown = _open_folder(base, None, base), base if base != "." else ""
+    try:
+        for name in names[:-1]:
+            shown = os.path.join(shown, name)
+            if makes:
+                with suppress(FileExistsError):
+                    os.mkdir(name, dir_fd=handle)
+            inner = _open_folder(name, handle, shown)
+            os.close(handle)
+            handle = inner
+        yield handle, names[-1]
+    finally:
+        os.close(handle)
+
+
+def _mode(name: str, above: int) -> int | None:
+    """The mode of a name in a folder; None where it is not there."""
+    try:
+        return os.stat(name, dir_fd=above, follow_symlinks=False).st_mode
+    except FileNotFoundError:
+        return None
+
+
+def make_folder(path: str, beneath: str | None = None) -> None:
+    """Makes a folder, and those above it, where they are not there."""
+    with _above(os.path.join(path, "_"), beneath, makes=True):
+        pass
+
+
+def write(path: str, data: bytes, beneath: str | None = None) -> None:
+    """Writes a file at once, in place of an old one: what fails leaves that. A link is refused, and a file with a
+    second name keeps its bytes there. A device beneath /dev that the user names is written to."""
+    if beneath is None and path.startswith("/dev/"):
+        _write_device(path, data)
+        return
+    with _above(path, beneath) as (above, name):
+        mode = _mode(name, above)
+        if mode is not None and not stat.S_ISREG(mode):
+            raise Refused(path, f"it is {kind_of(mode)}, and is not written over")
+        new = f".uxn-new-{os.getpid()}-{os.urandom(4).hex()}"
+        try:
+            with _created(new, above, path) as file:
+                file.write(data)
+                if mode is not None:
+                    os.fchmod(file.fileno(), stat.S_IMODE(mode) & 0o777)
+            os.replace(new, name, src_dir_fd=above, dst_dir_fd=above)
+        except BaseException:
+            with suppress(OSError):
+                os.unlink(new, dir_fd=above)
+            raise
+
+
+def _created(name: str, above: int, path: str) -> IO[bytes]:
+    flags = os.O_WRONLY | os.O_CREAT | os.O_EXCL | os.O_NOFOLLOW | os.O_CLOEXEC
+    try:
+        return open(os.open(name, flags, 0o666, dir_fd=above), "wb", buffering=0)
+    except OSError as error:
+        raise OSError(error.errno, error.strerror, path) from None
+
+
+def _write_device(path: str, data: bytes) -> None:
+    with open(path, "wb") as file:
+        file.write(data)
+
+
+def put(path: str, data: bytes) -> None:
+    """Writes a file into a folder that the tool has made for itself."""
+    flags = os.O_WRONLY | os.O_CREAT | os.O_TRUNC | os.O_NOFOLLOW | os.O_NONBLOCK | os.O_CLOEXEC
+    with open(os.open(path, flags, 0o666), "wb") as file:
+        file.write(data)
+
+
+def opened(path: str) -> IO[bytes]:
+    """A new file in a folder that the tool has made for itself, as an output of a call."""
+    flags = os.O_WRONLY | os.O_CREAT | os.O_TRUNC | os.O_NOFOLLOW | os.O_NONBLOCK | os.O_CLOEXEC
+    return open(os.open(path, flags, 0o666), "wb")
+
+
+def link(path: str, name: str) -> None:
+    """Makes a link in a folder that the tool has made for itself."""
+    os.symlink(path, name)
+
+
+def remove(path: str, beneath: str | None = None) -> None:
+    """Deletes a file where it is there; of a link the link."""
+    with suppress(FileNotFoundError), _above(path, beneath) as (above, name):
+        os.unlink(name, dir_fd=above)
+
+
+def remove_folder(path: str, beneath: str | None = None) -> None:
+    """Deletes a folder with all that it holds, where it is there. A link in its place is refused, and of a link in it
+    the link is deleted."""
+    with suppress(FileNotFoundError), _above(path, beneath) as (above, name):
+        _remove_all(name, above, path, 0)
+
+
+def _remove_all(name: str, above: int, path: str, depth: int) -> None:
+    if depth > MOST_DEPTH:
+        raise Refused(path, f"it is over {MOST_DEPTH} folders deep")
+    handle = _open_folder(name, above, path)
+    try:
+        for inner in os.listdir(handle):
+            mode = _mode(inner, handle)
+            if mode is not None and stat.S_ISDIR(mode):
+                _remove_all(inner, handle, os.path.join(path, inner), depth + 1)
+            elif mode is not None:
+                os.unlink(inner, dir_fd=handle)
+    finally:
+        os.close(handle)
+    os.rmdir(name, dir_fd=above)
+
+
+# Roots.
+
+
+@lru_cache
+def _mount_points() -> frozenset[str]:
+    """The folders at which a file system is mounted, by the mount table."""
+    try:
+        with open("/proc/self/mountinfo", "rb") as file:
+            lines = file.read().split(b"\n")
+    except OSError:
+        return frozenset()
+    points = (line.split(b" ")[4] for line in lines if line.count(b" ") > 4)
+    return frozenset(os.fsdecode(point.decode("unicode_escape").encode("latin-1")) for point in points)
+
+
+@dataclass
+class Tree:
+    """A root as it is walked: how many files and folders and bytes it may have, and what was found. Of a file with
+    several names each has to lie in it."""
+
+    path: str
+    most_files: int = MOST_FILES
+    most_bytes: int = MOST_BYTES
+    most_of_file: int = OUTPUT.most
+    device: int = 0
+    files: int = 0
+    bytes: int = 0
+    named: dict[int, tuple[int, str, int]] = field(default_factory=dict)
+
+    def begin(self, handle: int) -> None:
+        self.device = os.fstat(handle).st_dev
+        top = os.path.join(os.path.realpath(self.path), "")
+        inner = sorted(point for point in _mount_points() if point.startswith(top))
+        if inner:
+            raise Refused(os.path.join(self.path, inner[0][len(top) :]), "it is another file system")
+
+    def look_at(self, path: str, found: os.stat_result) -> None:
+        """Refuses what is neither a file nor a folder, what leads out, and what is too much."""
+        if not stat.S_ISREG(found.st_mode) and not stat.S_ISDIR(found.st_mode):
+            raise Refused(path, f"it is {kind_of(found.st_mode)}")
+        if found.st_dev != self.device:
+            raise Refused(path, "it is another file system")
+        self.files += 1
+        if self.files > self.most_files:
+            raise Refused(self.path, f"it has more than {self.most_files:,} files and folders")
+        if stat.S_ISREG(found.st_mode):
+            self._look_at_file(path, found)
+
+    def _look_at_file(self, path: str, found: os.stat_result) -> None:
+        if found.st_size > self.most_of_file:
+            raise Refused(path, f"it has more than {self.most_of_file:,} bytes")
+        self.bytes += found.st_size
+        if self.bytes > self.most_bytes:
+            raise Refused(self.path, f"its files have more than {self.most_bytes:,} bytes together")
+        if found.st_nlink > 1:
+            names, first, links = self.named.get(found.st_ino, (0, path, found.st_nlink))
+            self.named[found.st_ino] = names + 1, first, links
+
+    def end(self) -> None:
+        for names, first, links in self.named.values():
+            if names < links:
+                raise Refused(first, "the file has a second name")
+
+
+def _walk(tree: Tree, handle: int, shown: str, depth: int = 0) -> Iterator[tuple[int, str, str, os.stat_result]]:
+    """Each file and folder beneath an opened folder: the handle of the folder that it lies in, its name, its path
+    beneath the root, and what the system says of it."""
+    if depth > MOST_DEPTH:
+        raise Refused(os.path.join(tree.path, shown), f"it is over {MOST_DEPTH} folders deep")
+    for name in sorted(os.listdir(handle)):
+        path = f"{shown}/{name}" if shown else name
+        found = os.stat(name, dir_fd=handle, follow_symlinks=False)
+        tree.look_at(os.path.join(tree.path, path), found)
+        yield handle, name, path, found
+        if stat.S_ISDIR(found.st_mode):
+            inner = _open_folder(name, handle, os.path.join(tree.path, path))
+            try:
+                yield from _walk(tree, inner, path, depth + 1)
+            finally:
+                os.close(inner)
+
+
+def _walk_root(tree: Tree, beneath: str | None) -> Iterator[tuple[int, str, str, os.stat_result]]:
+    root = tree.path if beneath is None else os.path.relpath(tree.path, beneath)
+    with _above(root, beneath) as (above, name):
+        handle = _open_folder(name, above, tree.path)
+        try:
+            tree.begin(handle)
+            yield from _walk(tree, handle, "")
+            tree.end()
+        finally:
+            os.close(handle)
+
+
+def look_at_root(tree: Tree, beneath: str | None = None) -> Tree:
+    """Refuses a root that is no folder, or has what leads out of it or is too much."""
+    for _ in _walk_root(tree, beneath):
+        pass
+    return tree
+
+
+def _read_in(above: int, name: str, path: str, kind: Kind) -> bytes:
+    flags = os.O_RDONLY | os.O_NOFOLLOW | os.O_NONBLOCK | os.O_NOCTTY | os.O_CLOEXEC
+    try:
+        handle = os.open(name, flags, dir_fd=above)
+    except OSError as error:
+        raise OSError(error.errno, error.strerror, path) from None
+    try:
+        return _read_handle(handle, path, kind)
+    finally:
+        os.close(handle)
+
+
+def copy_root(root: str, target: str, beneath: str | None = None) -> None:
+    """Copies a root, which is a folder, to a new folder. What fails leaves none. `beneath` is a folder above the
+    root."""
+    with _above(target, None) as (above, name):
+        os.mkdir(name, dir_fd=above)
+    try:
+        _copy_into(root, target, beneath)
+    except BaseException:
+        shutil.rmtree(target, ignore_errors=True)
+        raise
+
+
+def _copy_into(root: str, target: str, beneath: str | None) -> None:
+    kind = Kind(OUTPUT.most)
+    for above, name, path, found in _walk_root(Tree(root), beneath):
+        there, mode = os.path.join(target, path), stat.S_IMODE(found.st_mode) & 0o777
+        if stat.S_ISDIR(found.st_mode):
+            os.mkdir(there, mode | 0o700)
+            continue
+        data = _read_in(above, name, os.path.join(root, path), kind)
+        with open(os.open(there, os.O_WRONLY | os.O_CREAT | os.O_EXCL | os.O_CLOEXEC, mode), "wb", buffering=0) as file:
+            file.write(data)
+
+
+def read_all(root: str, beneath: str | None = None) -> dict[str, bytes]:
+    """The files of a root with their bytes, by their paths in it. One that is not there has none."""
+    kind, found = Kind(OUTPUT.most), {}
+    try:
+        for above, name, path, status in _walk_root(Tree(root), beneath):
+            if stat.S_ISREG(status.st_mode):
+                found[path] = _read_in(above, name, os.path.join(root, path), kind)
+    except FileNotFoundError:
+        return found
+    return found
+
+
+def copy_file(path: str, target: str, kind: Kind = SOURCE) -> None:
+    """Copies a file that is read as others are, into a folder that the tool has made for itself."""
+    put(target, read(path, kind))
+
+
+# Folders and files of a tool's own.
+
+
+@contextmanager
+def scratch_folder(prefix: str = "uxn-", beside: str | None = None) -> Iterator[str]:
+    """A folder that is gone at the end."""
+    folder = tempfile.mkdtemp(prefix=prefix, dir=beside)
+    try:
+        yield folder
+    finally:
+        shutil.rmtree(folder, ignore_errors=True)
+
+
+def make_inner(folder: str, path: str) -> str:
+    """Makes the folders above a path in a folder that the tool has made for itself, and answers the whole path."""
+    there = os.path.join(folder, path)
+    os.makedirs(os.path.dirname(there), exist_ok=True)
+    return there
+
+
+def scratch_file() -> IO[bytes]:
+    """A file without a name."""
+    return tempfile.TemporaryFile()
+
+
+def database(path: str, beneath: str, most: int = 64 * MEBIBYTE) -> sqlite3.Connection:
+    """A database of a tool's own. What lies in its place and is no regular file with one name, or is too long, is
+    deleted first: a link, and not what it leads to."""
+    for ending in ("", "-journal", "-wal", "-shm"):
+        with _above(path + ending, beneath) as (above, name), suppress(FileNotFoundError):
+            found = os.stat(name, dir_fd=above, follow_symlinks=False)
+            if not stat.S_ISREG(found.st_mode) or found.st_nlink > 1 or found.st_size > most:
+                os.unlink(name, dir_fd=above)
+    return sqlite3.connect(os.path.join(beneath, path), timeout=20)
