@@ -1,12 +1,79 @@
 """The one reader and writer of the tools: what it takes, what it refuses, and that nothing else changes."""
 from __future__ import annotations
 
+import ast
+import glob
 import os
 import socket
 import time
+from collections.abc import Iterator
 
-from support import ToolTest
+from support import EXTRAS, ToolTest
 from uxntools import files
+
+# What opens, makes, copies or deletes a file, by the module that has it; `*` is all of it.
+ELSEWHERE = {
+    "os": "open fdopen remove unlink rename replace mkdir makedirs rmdir removedirs symlink link truncate chmod mkfifo".split(),
+    "io": ["open", "open_code", "FileIO"],
+    "shutil": "copy copy2 copyfile copyfileobj copytree move rmtree".split(),
+    "tempfile": ["*"],
+    "pathlib": ["*"],
+    "sqlite3": ["connect"],
+    "tomllib": ["load"],
+    "json": ["load"],
+    "tarfile": ["*"],
+    "zipfile": ["*"],
+    "wave": ["open"],
+}
+# A WAV file is made in memory.
+ALLOWED = {("samples.py", "wave.open")}
+
+
+def opened_elsewhere(text: str) -> Iterator[str]:
+    """What of a tool's source opens, makes, copies or deletes a file by itself."""
+    for node in ast.walk(ast.parse(text)):
+        if isinstance(node, ast.Name) and node.id in ("open", "exec", "eval"):
+            yield node.id
+        if isinstance(node, ast.Attribute) and isinstance(node.value, ast.Name):
+            names = ELSEWHERE.get(node.value.id, [])
+            if node.attr in names or "*" in names:
+                yield f"{node.value.id}.{node.attr}"
+        if isinstance(node, ast.ImportFrom):
+            yield from (f"{node.module}.{name.name}" for name in node.names if node.module in ELSEWHERE)
+        if isinstance(node, ast.Import):
+            yield from (f"{name.name} as {name.asname}" for name in node.names if name.name in ELSEWHERE and name.asname)
+        if isinstance(node, ast.Attribute) and node.attr in ("read_text", "read_bytes", "write_text", "write_bytes"):
+            yield node.attr
+
+
+class Sources(ToolTest):
+    def test_no_tool_opens_a_file_by_itself(self) -> None:
+        paths = [
+            path
+            for pattern in ("bin/*", "dropins/*", "uxntools/**/*.py")
+            for path in glob.glob(os.path.join(EXTRAS, pattern), recursive=True)
+        ]
+        self.assertGreater(len(paths), 80)
+        found = []
+        for path in paths:
+            name = os.path.basename(path)
+            if name != "files.py":
+                text = files.read(path).decode()
+                found += [f"{name}: {one}" for one in opened_elsewhere(text) if (name, one) not in ALLOWED]
+        self.assertEqual(found, [])
+
+    def test_the_check_finds_each_way(self) -> None:
+        for text, what in (
+            ("open('a')", "open"),
+            ("import os\nos.open('a', 0)", "os.open"),
+            ("from os import unlink", "os.unlink"),
+            ("import shutil as s", "shutil as s"),
+            ("import pathlib\npathlib.Path('a')", "pathlib.Path"),
+            ("from pathlib import Path", "pathlib.Path"),
+            ("a.read_text()", "read_text"),
+            ("import tempfile\ntempfile.mkdtemp()", "tempfile.mkdtemp"),
+        ):
+            self.assertIn(what, list(opened_elsewhere(text)))
 
 
 class FilesTest(ToolTest):

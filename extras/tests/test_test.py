@@ -558,12 +558,14 @@ class Keeping(Suite):
         self.write("tests/win.root/a", "2")
         self.assertIn("(1 unchanged", self.run_tests())
 
-    def test_a_link_to_a_folder_is_never_kept(self) -> None:
+    def test_a_root_with_a_link_is_refused(self) -> None:
         self.write("elsewhere/a", "1")
         os.mkdir(self.path("tests/win.root"))
         os.symlink(self.path("elsewhere"), self.path("tests/win.root/more"))
         for _ in range(2):
-            self.assertIn("2 passed, 0 failed (1 unchanged", self.run_tests())
+            said = self.run_tests(status=1)
+            self.assertIn("test: tests/win.root/more: it is a symbolic link\n", said)
+            self.assertIn("1 passed, 1 failed (1 unchanged", said)
 
     def test_another_program_counts(self) -> None:
         shutil.copy(self.program, self.path("other"))

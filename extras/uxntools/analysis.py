@@ -6,7 +6,7 @@ from __future__ import annotations
 import enum
 import os
 import re
-from bisect import bisect_right
+from bisect import bisect_left, bisect_right
 from collections.abc import Callable, Iterator
 from functools import lru_cache
 from typing import NamedTuple
@@ -20,6 +20,8 @@ NOT_FIRST = b'|$#@&,_.-;=!?"%~()[]{}/'
 DIGITS = re.compile(rb"[0-9a-f]+")
 _new = tuple.__new__  # makes a named tuple at once, where there are very many
 DEEPEST_USE, DEEPEST_INCLUDE, MOST_INCLUDES, MOST_WORDS = 32, 15, 256, 1_000_000
+# How many bytes a source has with all that it includes, and how many are read to find the sources that include one.
+MOST_TEXT, MOST_SEARCHED = 4_194_304, 8_388_608
 
 
 class Kind(enum.Enum):
@@ -284,10 +286,15 @@ class Analysis:
         ends in its line."""
         line = self.rows[word.path][word.line - 1]
         end = word.column - 1 + len(word.text)
-        behind = min((at for at, _ in line.words if at >= end), default=len(self.lines[word.path][word.line - 1]))
-        for span in line.comments:
-            if end <= span.start < behind and span.begins and span.ends:
-                return self.lines[word.path][word.line - 1][span.start : span.end]
+        next_word = bisect_left(line.words, (end, b""))
+        text = self.lines[word.path][word.line - 1]
+        behind = line.words[next_word][0] if next_word < len(line.words) else len(text)
+        for at in range(bisect_left(line.comments, (end,)), len(line.comments)):
+            span = line.comments[at]
+            if span.start >= behind:
+                break
+            if span.begins and span.ends:
+                return text[span.start : span.end]
         return b""
 
     def comment_above(self, word: Word) -> bytes:
@@ -312,10 +319,12 @@ class _Walk:
     def __init__(self, found: Analysis, expand: bool) -> None:
         self.found, self.expand = found, expand
         self.address, self.scope = 0x100, b"RESET"
-        self.visited, self.includes = 0, 0
+        self.visited, self.includes, self.size = 0, 0, 0
         self.head: Word | None = None
         self.body: list[Word] = []
         self.depth = 0
+        # What a word of a macro's body names in other uses than the first.
+        self.other_names: set[tuple[Entity, tuple[str, int, int]]] = set()
 
     def run(self) -> None:
         self._file(self.found.path, 0)
@@ -324,8 +333,10 @@ class _Walk:
         self._resolve_bodies()
 
     def _file(self, path: str, depth: int) -> None:
+        lines = self.found.rows_of(path)
+        self.size += sum(map(len, self.found.lines[path])) + len(lines) - 1
         self.found.scopes.setdefault(path, []).append((1, 0, self.scope))
-        for number, line in enumerate(self.found.rows_of(path), 1):
+        for number, line in enumerate(lines, 1):
             if self.head or self.expand:
                 self._words(path, number, line.words, depth)
                 continue
@@ -361,7 +372,8 @@ class _Walk:
 
     def _include(self, word: Word, depth: int) -> None:
         inner = source.included(self.found.path, word.text)
-        if depth == DEEPEST_INCLUDE or self.includes == MOST_INCLUDES or inner is None:
+        is_too_much = depth == DEEPEST_INCLUDE or self.includes == MOST_INCLUDES or self.size > MOST_TEXT
+        if is_too_much or inner is None:
             self.found.missing.append(Missing(word, "there are too many"))
             return
         self.includes += 1
@@ -440,8 +452,10 @@ class _Walk:
         known = self.found.places.get(place)
         if known is None:
             self.found.places[place] = entity
-        elif known == entity or word in self.found.references.get(entity, ()):
+        elif known == entity or (entity, place) in self.other_names:
             return
+        else:
+            self.other_names.add((entity, place))
         self.found.references.setdefault(entity, []).append(word)
 
     def _resolve_bodies(self) -> None:
@@ -474,32 +488,29 @@ def lambdas(words: list[Placed]) -> dict[int, int]:
 def sources_that_include(path: str, read: Callable[[str], bytes] = source.read, top: str | None = None) -> list[str]:
     """The sources near a file that include it: of its folder and of those above it, up to `top` or four folders up."""
     path = os.path.abspath(path)
-    folder, found = os.path.dirname(path), []
+    closures: dict[str, set[str]] = {}
+    size = 0
+    for candidate in _candidates(path, top):
+        parts = list(source.closure(candidate, read))
+        closures[candidate] = {os.path.normpath(name) for name, _ in parts if name != candidate}
+        size += sum(len(data) for _, data in parts if isinstance(data, bytes))
+        if size > MOST_SEARCHED:
+            break
+    found = [one for one, names in closures.items() if path in names]
+    return [one for one in found if not any(one != other and one in closures[other] for other in found)]
+
+
+def _candidates(path: str, top: str | None) -> Iterator[str]:
+    """The sources that may include a file."""
+    folder = os.path.dirname(path)
     for _ in range(5):
         for name in sorted(os.listdir(folder)) if os.path.isdir(folder) else []:
             candidate = os.path.join(folder, name)
-            if name.endswith(".tal") and candidate != path and path in _closure(candidate, read):
-                found.append(candidate)
+            if name.endswith(".tal") and candidate != path and os.path.isfile(candidate):
+                yield candidate
         if folder in (top, os.path.dirname(folder)):
             break
         folder = os.path.dirname(folder)
-    return [one for one in found if not any(one != other and one in _closure(other, read) for other in found)]
-
-
-def _closure(path: str, read: Callable[[str], bytes]) -> set[str]:
-    """The files that a source includes, as normal paths."""
-    seen, waiting = set(), [path]
-    while waiting:
-        try:
-            data = read(waiting.pop())
-        except OSError:
-            continue
-        for word in source.words(data) if b"~" in data else ():
-            inner = source.included(path, word.text)
-            if inner and os.path.normpath(inner) not in seen:
-                seen.add(os.path.normpath(inner))
-                waiting.append(inner)
-    return seen
 
 
 def comments(lines: list[bytes], found: list[Row], path: str = "") -> Iterator[tuple[Word, int]]:

@@ -3,14 +3,13 @@ from __future__ import annotations
 
 import os
 import re
-import tempfile
 from collections.abc import Callable
 from dataclasses import dataclass
 from typing import NamedTuple
 
-from uxntools import program, source
+from uxntools import files, program, source
 from uxntools.analysis import Analysis, Kind, shape
-from uxntools.cli import Failure
+from uxntools.cli import Failure, shown
 
 REFUSAL = re.compile(
     rb"source (?:(?P<path>.+) )?(?P<line>\d+):(?P<column>\d+): (?P<kind>[A-Z][A-Za-z]+): (?P<word>.*)\n?", re.DOTALL
@@ -66,7 +65,7 @@ class Fault(NamedTuple):
 
     def meaning(self) -> str:
         """The word, and what is wrong with it."""
-        word = self.word.decode(errors="replace")
+        word = shown(self.word.decode(errors="replace"), MOST_SHOWN)
         return ": ".join([word] * bool(word) + [MEANINGS.get(self.kind, self.kind)])
 
 
@@ -93,35 +92,31 @@ def is_path(path: str) -> bool:
 
 
 def _copy(path: str, name: str, folder: str, read: Callable[[str], bytes]) -> None:
-    """Copies a source, and what it includes as far as it is there."""
-    done, waiting = set(), [(path, name)]
-    while waiting:
-        here, there = waiting.pop()
-        try:
-            data = read(here)
-        except OSError:
-            if here == path:
-                raise
+    """Copies a source, and what it includes as far as it is there. One that is too long has a copy that is too long
+    too, so that `uxn` says so."""
+    start = len(os.path.join(os.path.dirname(path), ""))
+    for here, data in source.closure(path, read):
+        there = name if here == path else here[start:]
+        if not is_path(there):
             continue
-        done.add(there)
-        os.makedirs(os.path.dirname(os.path.join(folder, there)), exist_ok=True)
-        with open(os.path.join(folder, there), "wb") as file:
-            file.write(data)
-        for word in source.words(data) if b"~" in data else ():
-            inner = os.fsdecode(word.text[1:]) if word.text[:1] == b"~" and len(word.text) > 1 else ""
-            if inner and inner not in done and is_path(inner):
-                waiting.append((os.path.join(os.path.dirname(path), inner), inner))
+        if isinstance(data, bytes):
+            files.put(files.make_inner(folder, there), data)
+        elif files.is_long(data):
+            files.put_long(files.make_inner(folder, there), files.SOURCE)
+        elif here == path:
+            raise data
 
 
 def assemble(path: str, read: Callable[[str], bytes] = source.read) -> Assembled:
     """Assembles a source. `read` gives the bytes of a file by its path, as an editor's buffer has them."""
     name = os.path.basename(path)
     name = name if is_path(name) else "source.tal"
-    with tempfile.TemporaryDirectory(prefix="uxn-") as folder:
+    with files.scratch_folder() as folder:
         _copy(path, name, folder, read)
         done = program.call("asm", name, "--out", ROM, "--symbols", SYMBOLS, folder=folder, seconds=60)
         if done.status == 0:
-            return Assembled(None, source.read(os.path.join(folder, ROM)), source.read(os.path.join(folder, SYMBOLS)))
+            made = [files.read(os.path.join(folder, one), files.MADE) for one in (ROM, SYMBOLS)]
+            return Assembled(None, *made)
     found = REFUSAL.fullmatch(done.err)
     if done.status != 131 or not found:
         raise Failure(f"{path}: uxn asm ended with {done.status}: {done.line}", done.status)
@@ -136,6 +131,7 @@ def assemble(path: str, read: Callable[[str], bytes] = source.read) -> Assembled
 # place by a number.
 OF_A_FORM, OF_A_REFERENCE = ("BadNumber", "NoName", "BadName"), ("UnknownName", "TooFar")
 MOST_FAULTS = 20
+MOST_SHOWN = 260
 
 
 def faults(path: str, read: Callable[[str], bytes] = source.read) -> list[Fault]:
@@ -150,12 +146,15 @@ def faults(path: str, read: Callable[[str], bytes] = source.read) -> list[Fault]
         return changed[name] if name in changed else read(name)
 
     has_moved = False
+    macros: set[bytes] | None = None
     while len(found) < MOST_FAULTS:
         fault = assemble(path, read_changed).fault
         if fault is None or has_moved and fault.kind not in (*OF_A_FORM, "UnknownName"):
             break
         found.append(fault)
-        is_use = shape(fault.word).kind is Kind.REFERENCE and fault.word in Analysis(path, read).macros
+        if macros is None and shape(fault.word).kind is Kind.REFERENCE:
+            macros = set(Analysis(path, read).macros)
+        is_use = shape(fault.word).kind is Kind.REFERENCE and fault.word in (macros or ())
         data = None if is_use else _without(fault, read_changed)
         if data is None:
             break

@@ -4,9 +4,10 @@ from __future__ import annotations
 import signal
 import subprocess
 import sys
-import tempfile
 from collections.abc import Callable, Iterator, Sequence
 from contextlib import contextmanager
+
+from uxntools import files
 
 ENDING = (signal.SIGINT, signal.SIGTERM, signal.SIGHUP)
 
@@ -17,7 +18,7 @@ def scratch_folder(name: str) -> Iterator[str]:
     for number in ENDING:
         if _ends_by(number):
             signal.signal(number, _end)
-    with tempfile.TemporaryDirectory(prefix=f"{name}-") as folder:
+    with files.scratch_folder(f"{name}-") as folder:
         yield folder
 
 
@@ -40,9 +41,15 @@ def _wait(started: subprocess.Popen[bytes], ending: set[signal.Signals]) -> int:
     return status
 
 
-def call(words: Sequence[str], folder: str, before: Callable[[], None] | None = None) -> int:
+def call(
+    words: Sequence[str],
+    folder: str,
+    before: Callable[[], None] | None = None,
+    beside: Callable[[subprocess.Popen[bytes]], None] | None = None,
+) -> int:
     """Runs a program in a folder, without an input, and answers its status as a shell would: 128 and the number of a
-    signal that ended it. `before` is called in the new process. A tool that ends early ends the program first."""
+    signal that ended it. `before` is called in the new process. With `beside`, which is called once it runs, its
+    outputs are pipes. A tool that ends early ends the program first."""
     ending = {number for number in ENDING if _ends_by(number)}
     signal.signal(signal.SIGCHLD, lambda *_: None)
     mask = signal.pthread_sigmask(signal.SIG_BLOCK, {*ending, signal.SIGCHLD})
@@ -55,8 +62,13 @@ def call(words: Sequence[str], folder: str, before: Callable[[], None] | None = 
             before()
 
     try:
-        started = subprocess.Popen(words, cwd=folder, stdin=subprocess.DEVNULL, preexec_fn=prepare)
+        pipe = subprocess.PIPE if beside else None
+        started = subprocess.Popen(
+            words, cwd=folder, stdin=subprocess.DEVNULL, stdout=pipe, stderr=pipe, preexec_fn=prepare
+        )
         try:
+            if beside:
+                beside(started)
             status = _wait(started, ending)
         except BaseException:
             started.kill()

@@ -7,13 +7,16 @@ import os
 import signal
 import sys
 from collections.abc import Callable, Iterator
-from contextlib import contextmanager
+from contextlib import contextmanager, suppress
 from types import FrameType
 from typing import NoReturn
 
+from uxntools import files
 
 # How often a wait for input is broken off, in seconds.
 TICK = 0.2
+# How long a line is that names a fault, at most.
+MOST_SIGNS = 2000
 
 
 class Failure(Exception):
@@ -32,8 +35,23 @@ class Parser(argparse.ArgumentParser):
         super().__init__(allow_abbrev=False, formatter_class=argparse.RawDescriptionHelpFormatter, **words)  # type: ignore[arg-type]
 
     def error(self, message: str) -> NoReturn:
-        line = " ".join(message.split())
+        line = shown(" ".join(message.split()))
         self.exit(2, f"{self.prog}: {line} (see {self.prog} --help)\n")
+
+
+def shown(text: str, most: int = MOST_SIGNS) -> str:
+    """A text as a part of a line for the eye: what a terminal would obey is escaped, and a long text is cut."""
+    rest = len(text) - most
+    made = "".join(sign if sign.isprintable() else _escaped(sign) for sign in text[:most])
+    return made if rest <= 0 else f"{made}.. ({rest:,} signs more)"
+
+
+def _escaped(sign: str) -> str:
+    number = ord(sign)
+    if 0xDC80 <= number <= 0xDCFF:
+        number -= 0xDC00
+    named = {"\t": "\\t", "\r": "\\r", "\n": "\\n"}.get(sign)
+    return named or (f"\\x{number:02x}" if number < 256 else f"\\u{number:04x}")
 
 
 def number(least: int, most: int) -> Callable[[str], int]:
@@ -66,25 +84,66 @@ def noticing_signals() -> Iterator[None]:
 
 
 def run(main: Callable[[], int | None], name: str) -> NoReturn:
-    """Calls the tool and ends with its status: 130 when interrupted, 141 when nobody reads its output, 1 for a file that fails."""
+    """Calls the tool and ends with its status: 130 when interrupted, 141 when nobody reads its output, 1 for a file that
+    fails. A closed input has nothing; a closed output takes nothing."""
+    files.open_streams()
     for number in (signal.SIGTERM, signal.SIGHUP):
         if signal.getsignal(number) is signal.SIG_DFL:
             signal.signal(number, _end)
     for stream in (sys.stdin, sys.stdout, sys.stderr):
         if isinstance(stream, io.TextIOWrapper):
             stream.reconfigure(errors="surrogateescape")
+    status = _status(main, name)
+    for stream in (sys.stdout, sys.stderr):
+        try:
+            stream.flush()
+        except (OSError, ValueError):
+            files.silence(stream.fileno())
+            status = status or 1
+    sys.exit(status)
+
+
+def _status(main: Callable[[], int | None], name: str) -> int:
+    """Calls the tool, says a fault in one line, and answers the status."""
     try:
         status = main() or 0
         sys.stdout.flush()
+        return status
     except Failure as failure:
-        print(f"{name}: {failure.line}", file=sys.stderr)
-        status = failure.status
+        return _say(name, failure.line, failure.status)
+    except SystemExit as ended:
+        return ended.code if isinstance(ended.code, int) else int(bool(ended.code))
     except KeyboardInterrupt:
-        status = 130
+        return 130
     except BrokenPipeError:
-        os.dup2(os.open(os.devnull, os.O_WRONLY), sys.stdout.fileno())
-        status = 141
+        return 141
     except OSError as error:
-        print(f"{name}: {os.fsdecode(error.filename or '')}: {error.strerror}".replace(": : ", ": "), file=sys.stderr)
-        status = 1
-    sys.exit(status)
+        return _say(name, line_of(error), error.status if isinstance(error, files.Refused) else 1)
+    except RecursionError:
+        return _say(name, "something is nested too deeply", 1)
+    except MemoryError:
+        return _say(name, "out of memory", 138)
+    except Exception as error:
+        return _say(name, f"{type(error).__name__}: {error} ({_place_of(error)}): this is a mistake of {name}", 1)
+
+
+def line_of(error: OSError) -> str:
+    """What is said of a file that fails."""
+    name = error.filename
+    path = os.fsdecode(name) if isinstance(name, (str, bytes)) else "" if name is None else f"standard stream {name}"
+    why = error.strerror or str(error)
+    return f"{path}: {why}" if path else why
+
+
+def _place_of(error: BaseException) -> str:
+    """The innermost place of an exception."""
+    trace = error.__traceback__
+    while trace is not None and trace.tb_next is not None:
+        trace = trace.tb_next
+    return f"{os.path.basename(trace.tb_frame.f_code.co_filename)}:{trace.tb_lineno}" if trace else "nowhere"
+
+
+def _say(name: str, line: str, status: int) -> int:
+    with suppress(OSError, ValueError):
+        print(f"{name}: {shown(line)}", file=sys.stderr, flush=True)
+    return status

@@ -11,8 +11,8 @@ import sys
 import time
 from collections.abc import Iterator
 
-from uxntools import attached, program, source, symbols
-from uxntools.cli import Failure
+from uxntools import attached, files, program, source, symbols
+from uxntools.cli import Failure, shown
 
 REFUSAL = re.compile(r"source (?:(?P<path>.*) )?(?P<place>\d+:\d+): (?P<kind>[A-Z]\w+): (?P<word>.*)", re.DOTALL)
 # A script has at most 1,000,000 events: one for each byte of input, and one for its end.
@@ -35,10 +35,11 @@ class Mirror:
         self.folder = folder
         self.path = path
         self.names: dict[bytes, bytes] = {}
-        self.macros = 0
+        self.order: list[bytes] = []
+        self.macros = self.size = 0
         copies = [(b"", self._copy(path))]
         for name in self._names_to_come():
-            if os.path.isfile(name):
+            if files.is_file(os.fsdecode(name)):
                 copies.append((stand_in(name), self._copy(os.fsdecode(name))))
         for name, data in copies[1:]:
             self._write(name, data)
@@ -48,13 +49,14 @@ class Mirror:
     def _names_to_come(self) -> Iterator[bytes]:
         """The names of included files, each once; more come while they are read."""
         done = 0
-        while done < len(self.names):
-            yield list(self.names.values())[done]
+        while done < min(len(self.order), source.MOST_FILES) and self.size <= source.MOST_BYTES:
+            yield self.order[done]
             done += 1
 
     def _copy(self, path: str) -> bytes:
         """The bytes of a file, with stand-ins; the names that it includes and the macros that it defines are noted."""
         data, made, at = source.read(path), [], 0
+        self.size += len(data)
         for word in source.words(data):
             self.macros += word.text.startswith(b"%")
             if word.text.startswith(b"~") and len(word.text) > 1:
@@ -63,16 +65,15 @@ class Mirror:
         return b"".join(made) + data[at:]
 
     def _noted(self, name: bytes) -> bytes:
+        if stand_in(name) not in self.names:
+            self.order.append(name)
         other = self.names.setdefault(stand_in(name), name)
         if other != name:
             raise Failure(f"~{os.fsdecode(name)} and ~{os.fsdecode(other)} cannot both be included")
         return stand_in(name)
 
     def _write(self, name: bytes, data: bytes) -> None:
-        path = os.path.join(os.fsencode(self.folder), name)
-        os.makedirs(os.path.dirname(path), exist_ok=True)
-        with open(path, "wb") as file:
-            file.write(data)
+        files.put(files.make_inner(self.folder, os.fsdecode(name)), data)
 
     def unused(self, name: str) -> str:
         """A name like this one that nothing in the folder has."""
@@ -106,12 +107,11 @@ def assemble(path: str, rom: str) -> int:
         made = [mirror.unused("made.rom"), mirror.unused("made.sym")]
         done = program.call("asm", mirror.main, "--out", made[0], "--symbols", made[1], folder=folder)
         if done.status:
-            print(mirror.line(done.line) or f"uxnasm: uxn ended with {done.status}", file=sys.stderr)
+            print(shown(mirror.line(done.line)) or f"uxnasm: uxn ended with {done.status}", file=sys.stderr)
             return done.status
-        data, labels = (source.read(os.path.join(folder, name)) for name in made)
+        data, labels = (files.read(os.path.join(folder, name), files.MADE) for name in made)
     for name, content in ((rom, data), (f"{rom}.sym", labels)):
-        with open(name, "wb") as file:
-            file.write(content)
+        files.write(name, content)
     size = len(data)
     print(
         f"Assembled {rom} in {size} bytes({size / 652.80:.2f}% used), {len(symbols.read(labels))} labels,"
@@ -133,21 +133,20 @@ def input_of_call() -> bytes:
     """The standard input to its end; none from a terminal, nor where it is closed."""
     if sys.stdin is None or sys.stdin.isatty():
         return b""
-    data = sys.stdin.buffer.read(MOST_INPUT + 1)
-    if len(data) > MOST_INPUT:
-        raise Failure(f"the input has more than {MOST_INPUT:,} bytes")
-    return data
+    try:
+        return files.read_input(MOST_INPUT)
+    except files.Refused:
+        raise Failure(f"the input has more than {MOST_INPUT:,} bytes") from None
 
 
 def play(rom: str, arguments: list[bytes]) -> int:
     """Runs a ROM with arguments, the standard input and the files of the current folder, and answers its status."""
-    data = source.read(rom)
+    data = files.read(rom, files.ROM)
+    files.look_at_folder(".")
     uxn = program.path_of_uxn()
     with attached.scratch_folder("uxncli") as folder:
-        os.symlink(os.getcwd(), os.path.join(folder, "files"))
-        with open(os.path.join(folder, "rom"), "wb") as file:
-            file.write(data)
-        with open(os.path.join(folder, "script"), "w", encoding="ascii") as file:
-            file.write(script_of(arguments, input_of_call()))
+        files.link(os.getcwd(), os.path.join(folder, "files"))
+        files.put(os.path.join(folder, "rom"), data)
+        files.put(os.path.join(folder, "script"), script_of(arguments, input_of_call()).encode("ascii"))
         options = ["--script", "script", "--root", "files", "--budget", str(MOST_BUDGET)]
         return attached.call([uxn, "play", "rom", "--rom", *options], folder)

@@ -8,7 +8,8 @@ from typing import NamedTuple
 from uxntools import opcodes
 from uxntools.analysis import Analysis, Kind, Label, Placed, full_name, lambdas, shape
 
-MOST_STEPS = 20_000
+# How many words are followed in one routine, and in all of a source.
+MOST_STEPS, MOST_OF_ALL = 20_000, 2_000_000
 # The ports that move the pointers of the stacks.
 POINTERS = (0x04, 0x05)
 
@@ -100,6 +101,7 @@ class Routines:
         called = {
             self._target(placed) for placed in self.code if shape(placed.word.text)[0::3] == (Kind.REFERENCE, b"")
         }
+        self.steps_left = MOST_OF_ALL
         self.effects: dict[bytes, Effect] = {}
         for label in found.labels.values():
             is_sublabel = label.word.text[:1] == b"&"
@@ -131,9 +133,10 @@ class _Run:
     def message(self) -> str:
         """What the routine does in place of what it says; empty where it is right or not straight enough."""
         try:
-            for _ in range(MOST_STEPS):
+            for _ in range(min(MOST_STEPS, self.all.steps_left)):
                 if not self.waiting:
                     return self.wrong
+                self.all.steps_left -= 1
                 self._go_on(self.waiting.pop())
         except _Unclear:
             pass

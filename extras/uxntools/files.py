@@ -13,7 +13,7 @@ import sqlite3
 import stat
 import sys
 import tempfile
-from collections.abc import Iterator
+from collections.abc import Iterable, Iterator
 from contextlib import contextmanager, suppress
 from dataclasses import dataclass, field
 from functools import lru_cache
@@ -51,8 +51,8 @@ MADE = Kind(512 * MEBIBYTE)
 class Refused(OSError):
     """A file that is not read or written: why, and the status of the program for it."""
 
-    def __init__(self, path: str, why: str, status: int = 1) -> None:
-        super().__init__(errno.EINVAL, why, path)
+    def __init__(self, path: str, why: str, status: int = 1, number: int = errno.EINVAL) -> None:
+        super().__init__(number, why, path)
         self.status = status
 
 
@@ -78,7 +78,7 @@ def _refuse_kind(path: str, mode: int) -> None:
 
 def _refuse_size(path: str, size: int, kind: Kind) -> None:
     if size > kind.most:
-        raise Refused(path, f"{kind.word}: it has more than {kind.most:,} bytes", kind.status)
+        raise Refused(path, f"{kind.word}: it has more than {kind.most:,} bytes", kind.status, errno.EFBIG)
 
 
 def read(path: str, kind: Kind = SOURCE) -> bytes:
@@ -119,6 +119,29 @@ def read_input(most: int = 64 * MEBIBYTE) -> bytes:
     if len(data) > most:
         raise Refused("the standard input", f"it has more than {most:,} bytes")
     return data
+
+
+def open_streams() -> None:
+    """Opens the standard streams that are closed: the input has nothing, an output takes nothing. So no file that is
+    opened later gets the number of one of them."""
+    for number in range(3):
+        try:
+            os.fstat(number)
+        except OSError:
+            os.set_inheritable(os.open(os.devnull, os.O_RDONLY), True)
+    if sys.stdin is None:
+        sys.stdin = open(0, encoding="utf-8", closefd=False)
+    if sys.stdout is None:
+        sys.stdout = open(1, "w", encoding="utf-8", closefd=False)
+    if sys.stderr is None:
+        sys.stderr = open(2, "w", encoding="utf-8", closefd=False)
+
+
+def silence(number: int) -> None:
+    """Lets an output take all that is still put there."""
+    handle = os.open(os.devnull, os.O_WRONLY)
+    os.dup2(handle, number)
+    os.close(handle)
 
 
 def is_file(path: str) -> bool:
@@ -186,6 +209,9 @@ def _mode(name: str, above: int) -> int | None:
 
 def make_folder(path: str, beneath: str | None = None) -> None:
     """Makes a folder, and those above it, where they are not there."""
+    if beneath is None and os.path.isabs(path):
+        os.makedirs(os.path.dirname(os.path.normpath(path)), exist_ok=True)
+        beneath, path = os.path.split(os.path.normpath(path))
     with _above(os.path.join(path, "_"), beneath, makes=True):
         pass
 
@@ -195,7 +221,11 @@ def write(path: str, data: bytes, beneath: str | None = None) -> None:
     second name keeps its bytes there. A device beneath /dev that the user names is written to."""
     if beneath is None and path.startswith("/dev/"):
         _write_device(path, data)
-        return
+    else:
+        _write(path, [data], beneath)
+
+
+def _write(path: str, parts: Iterable[bytes], beneath: str | None) -> None:
     with _above(path, beneath) as (above, name):
         mode = _mode(name, above)
         if mode is not None and not stat.S_ISREG(mode):
@@ -203,7 +233,8 @@ def write(path: str, data: bytes, beneath: str | None = None) -> None:
         new = f".uxn-new-{os.getpid()}-{os.urandom(4).hex()}"
         try:
             with _created(new, above, path) as file:
-                file.write(data)
+                for part in parts:
+                    _write_all(file, part)
                 if mode is not None:
                     os.fchmod(file.fileno(), stat.S_IMODE(mode) & 0o777)
             os.replace(new, name, src_dir_fd=above, dst_dir_fd=above)
@@ -211,6 +242,11 @@ def write(path: str, data: bytes, beneath: str | None = None) -> None:
             with suppress(OSError):
                 os.unlink(new, dir_fd=above)
             raise
+
+
+def _write_all(file: IO[bytes], data: bytes) -> None:
+    while data:
+        data = data[file.write(data) :]
 
 
 def _created(name: str, above: int, path: str) -> IO[bytes]:
@@ -224,6 +260,13 @@ def _created(name: str, above: int, path: str) -> IO[bytes]:
 def _write_device(path: str, data: bytes) -> None:
     with open(path, "wb") as file:
         file.write(data)
+
+
+def move(made: str, path: str) -> None:
+    """Writes a file, as `write` does, that has the bytes of one in a folder that the tool has made for itself."""
+    _refuse_kind(made, os.lstat(made).st_mode)
+    with open(made, "rb") as file:
+        _write(path, iter(lambda: file.read(MEBIBYTE), b""), None)
 
 
 def put(path: str, data: bytes) -> None:
@@ -304,10 +347,8 @@ class Tree:
 
     def begin(self, handle: int) -> None:
         self.device = os.fstat(handle).st_dev
-        top = os.path.join(os.path.realpath(self.path), "")
-        inner = sorted(point for point in _mount_points() if point.startswith(top))
-        if inner:
-            raise Refused(os.path.join(self.path, inner[0][len(top) :]), "it is another file system")
+        for inner in mounts_beneath(self.path):
+            raise Refused(os.path.join(self.path, inner), "it is another file system")
 
     def look_at(self, path: str, found: os.stat_result) -> None:
         """Refuses what is neither a file nor a folder, what leads out, and what is too much."""
@@ -367,6 +408,53 @@ def _walk_root(tree: Tree, beneath: str | None) -> Iterator[tuple[int, str, str,
             os.close(handle)
 
 
+def mounts_beneath(folder: str) -> list[str]:
+    """The paths in a folder at which another file system is mounted."""
+    top = os.path.join(os.path.realpath(folder), "")
+    return sorted(point[len(top) :] for point in _mount_points() if point.startswith(top))
+
+
+def look_at_folder(folder: str) -> None:
+    """Refuses a folder over which a program runs as it is, where a name of it leads out. A link may lead to what lies
+    in the folder, or to a file that the user may not write. What git keeps is left alone."""
+    top, named = os.path.join(os.path.realpath(folder), ""), {}
+    for inner in mounts_beneath(folder):
+        raise Refused(inner, "it is another file system, and the program could write there")
+    for place, folders, names in os.walk(folder):
+        folders[:] = [name for name in folders if name != ".git"]
+        for name in (*folders, *names):
+            path = os.path.normpath(os.path.join(place, name))
+            found = os.lstat(path)
+            if stat.S_ISLNK(found.st_mode):
+                if not os.path.join(os.path.realpath(path), "").startswith(top) and not _is_kept_from(path):
+                    raise Refused(path, "it is a symbolic link out of this folder, and the program could write there")
+            elif not stat.S_ISREG(found.st_mode) and not stat.S_ISDIR(found.st_mode):
+                raise Refused(path, f"it is {kind_of(found.st_mode)}, and the program could wait for it")
+            elif stat.S_ISREG(found.st_mode) and found.st_nlink > 1:
+                names_so_far, first = named.get(found.st_ino, (0, path))
+                named[found.st_ino] = names_so_far + 1, first
+    for count, first in named.values():
+        if count < os.lstat(first).st_nlink:
+            raise Refused(first, "the file has a second name outside of this folder, and the program could write there")
+
+
+def _is_kept_from(path: str) -> bool:
+    """Whether a link leads to a file that the user may not write."""
+    return os.path.isfile(path) and not os.access(path, os.W_OK)
+
+
+def list_root(root: str, beneath: str | None = None) -> list[str]:
+    """The paths of the files and folders of a root, a folder with a `/` at its end."""
+    return [
+        path + "/" * stat.S_ISDIR(found.st_mode) for _, _, path, found in _walk_root(_tree(root, beneath), beneath)
+    ]
+
+
+def _tree(root: str, beneath: str | None) -> Tree:
+    """A root, with its path as the user sees it."""
+    return Tree(root if beneath is None else os.path.relpath(root))
+
+
 def look_at_root(tree: Tree, beneath: str | None = None) -> Tree:
     """Refuses a root that is no folder, or has what leads out of it or is too much."""
     for _ in _walk_root(tree, beneath):
@@ -400,7 +488,7 @@ def copy_root(root: str, target: str, beneath: str | None = None) -> None:
 
 def _copy_into(root: str, target: str, beneath: str | None) -> None:
     kind = Kind(OUTPUT.most)
-    for above, name, path, found in _walk_root(Tree(root), beneath):
+    for above, name, path, found in _walk_root(_tree(root, beneath), beneath):
         there, mode = os.path.join(target, path), stat.S_IMODE(found.st_mode) & 0o777
         if stat.S_ISDIR(found.st_mode):
             os.mkdir(there, mode | 0o700)
@@ -414,7 +502,7 @@ def read_all(root: str, beneath: str | None = None) -> dict[str, bytes]:
     """The files of a root with their bytes, by their paths in it. One that is not there has none."""
     kind, found = Kind(OUTPUT.most), {}
     try:
-        for above, name, path, status in _walk_root(Tree(root), beneath):
+        for above, name, path, status in _walk_root(_tree(root, beneath), beneath):
             if stat.S_ISREG(status.st_mode):
                 found[path] = _read_in(above, name, os.path.join(root, path), kind)
     except FileNotFoundError:
@@ -422,9 +510,26 @@ def read_all(root: str, beneath: str | None = None) -> dict[str, bytes]:
     return found
 
 
+def is_long(error: OSError) -> bool:
+    """Whether a file was refused since it is longer than its kind may be."""
+    return isinstance(error, Refused) and error.errno == errno.EFBIG
+
+
+def put_long(path: str, kind: Kind, size: int = 0) -> None:
+    """Writes a file that is longer than its kind may be, and takes no room."""
+    put(path, b"")
+    os.truncate(path, max(kind.most + 1, min(size, OUTPUT.most)))
+
+
 def copy_file(path: str, target: str, kind: Kind = SOURCE) -> None:
-    """Copies a file that is read as others are, into a folder that the tool has made for itself."""
-    put(target, read(path, kind))
+    """Copies a file that is read as others are, into a folder that the tool has made for itself. The copy of one that
+    is too long is too long too, so that `uxn` says so."""
+    try:
+        put(target, read(path, kind))
+    except Refused as refused:
+        if not is_long(refused):
+            raise
+        put_long(target, kind, os.stat(path).st_size)
 
 
 # Folders and files of a tool's own.

@@ -164,20 +164,32 @@ def lits_before_literals(found: Analysis) -> Iterator[Alarm]:
 
 
 def shadowed_labels(found: Analysis) -> Iterator[Alarm]:
+    first_in: dict[Entity, dict[bytes, Word]] = {}
     for label in found.labels.values():
         scope, _, name = label.name.partition(b"/")
         if label.word.text[:1] != b"&" or label.is_from_macro:
             continue
         for entity in (Entity(False, name), Entity(True, name)):
-            words = found.references.get(entity, []) if name != scope else []
-            inside = [word for word in words if found.scope_at(word.path, word.line, word.column) == scope]
-            if inside and found.definition(entity):
+            if name == scope or entity not in found.references or not found.definition(entity):
+                continue
+            if entity not in first_in:
+                first_in[entity] = _first_in_scopes(found, entity)
+            first = first_in[entity].get(scope)
+            if first:
                 what = "macro" if entity.is_macro else "label"
                 yield Alarm(
                     label.word,
                     "shadowed-label",
-                    f"{_text(scope)} refers to the {what} {_text(name)} at {inside[0].line}:{inside[0].column}",
+                    f"{_text(scope)} refers to the {what} {_text(name)} at {first.line}:{first.column}",
                 )
+
+
+def _first_in_scopes(found: Analysis, entity: Entity) -> dict[bytes, Word]:
+    """The first word in each scope that refers to a name."""
+    words: dict[bytes, Word] = {}
+    for word in found.references[entity]:
+        words.setdefault(found.scope_at(word.path, word.line, word.column), word)
+    return words
 
 
 def _label_of(found: Analysis, placed: Placed) -> Label | None:
@@ -272,15 +284,17 @@ class _Silence:
 
     def _read(self, found: Analysis, path: str, lines: list[bytes]) -> None:
         rows = found.rows[path]
+        next_with_words = list(range(1, len(rows) + 1))
+        for at in range(len(rows) - 2, -1, -1):
+            if not rows[at].words:
+                next_with_words[at] = next_with_words[at + 1]
         for comment, last in comments(lines, rows, path):
             said = ALLOW.fullmatch(comment.text)
             for name in said[2].split() if said else ():
                 if _text(name) not in NAMES:
                     self.unknown.append(Alarm(comment, "unknown-alarm", f"no alarm has the name {_text(name)}"))
-                line = last
-                while said and not said[1] and line < len(rows) and not rows[line - 1].words:
-                    line += 1
-                self.allowed.add((path, 0 if said and said[1] else line, _text(name)))
+                line = 0 if said and said[1] else next_with_words[last - 1]
+                self.allowed.add((path, line, _text(name)))
 
     def allows(self, alarm: Alarm) -> bool:
         path, line = alarm.word.path, alarm.word.line

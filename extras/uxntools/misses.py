@@ -6,12 +6,11 @@ never falls as the prefix grows, so those that missed are found by halving."""
 from __future__ import annotations
 
 import os
-import shutil
 from dataclasses import dataclass
 from typing import TYPE_CHECKING
 
-from uxntools import log, program, report, script
-from uxntools.cli import Failure
+from uxntools import files, log, program, report, script
+from uxntools.cli import Failure, line_of
 from uxntools.script import Expect
 
 if TYPE_CHECKING:
@@ -53,13 +52,11 @@ class Finder:
         return f"{self.scratch}/{name}"
 
     def _write(self, name: str, data: bytes) -> str:
-        with open(os.path.join(self.run.folder, self._path(name)), "wb") as file:
-            file.write(data)
+        files.put(os.path.join(self.run.folder, self._path(name)), data)
         return self._path(name)
 
     def _read(self, name: str) -> bytes:
-        with open(os.path.join(self.run.folder, self._path(name)), "rb") as file:
-            return file.read()
+        return files.read(os.path.join(self.run.folder, self._path(name)), files.OUTPUT)
 
     def _call(self, command: str, lines: int, *words: str) -> None:
         """Runs the program over so many lines of the script, with the files beneath its root as they were."""
@@ -67,9 +64,9 @@ class Finder:
         options = ["--script", prefix, *words]
         if self.run.has_root:
             root = os.path.join(self.run.folder, self._path("root"))
-            shutil.rmtree(root, ignore_errors=True)
-            if self.run.root and os.path.isdir(os.path.join(self.run.folder, self.run.root)):
-                shutil.copytree(os.path.join(self.run.folder, self.run.root), root, symlinks=True)
+            files.remove_folder(root)
+            if self.run.root and os.path.lexists(os.path.join(self.run.folder, self.run.root)):
+                files.copy_root(os.path.join(self.run.folder, self.run.root), root, self.run.folder)
             options += ["--root", self._path("root")]
         program.need(command, *self.run.words, *options, folder=self.run.folder)
 
@@ -142,11 +139,11 @@ def lines_of_test(test: Test, beside: str, most: int = 10) -> list[str]:
     if test.settings.budget is not None:
         words += ["--budget", str(test.settings.budget)]
     run = Run(test.folder, tuple(words), test.root, test.has_root)
-    with open(test.full_path("script"), "rb") as file:
-        data = file.read()
     try:
-        found = find(run, data, beside)[0]
+        found = find(run, files.read(test.full_path("script"), files.SCRIPT), beside)[0]
     except Failure as failure:
         return [f"which of them is not known: {failure.line}"]
+    except OSError as error:
+        return [f"which of them is not known: {line_of(error)}"]
     lines = [shown(test.path("script"), miss) for miss in found[:most]]
     return lines + ([f".. and {len(found) - most} more"] if len(found) > most else [])

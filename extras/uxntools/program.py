@@ -5,13 +5,13 @@ import os
 import re
 import shutil
 import subprocess
-import tempfile
 import threading
 from collections.abc import Iterator, Sequence
 from contextlib import contextmanager
 from dataclasses import dataclass
 from typing import IO
 
+from uxntools import files
 from uxntools.cli import Failure
 
 # The statuses of `uxn` itself, behind those that a program can give (0 to 127).
@@ -22,8 +22,9 @@ FAULT = re.compile(
     r"source (?:(?P<path>.*) )?(?P<line>\d+):(?P<column>\d+): (?P<kind>[A-Za-z]+): (?P<word>.*)", re.DOTALL
 )
 
-# How much of an error output is kept where the output itself is not wanted: a refusal's line is its end.
-LAST_OF_ERRORS = 70000
+# How much of an error output is kept where the output itself is not wanted. Of a refusal that is all: its line may
+# have a word as long as a source.
+LAST_OF_ERRORS, LAST_OF_REFUSAL = 70_000, 5_000_000
 
 
 @dataclass(frozen=True)
@@ -124,9 +125,10 @@ class Calls:
 def call_for_files(*words: str, folder: str, calls: Calls) -> Done:
     """The same where only the files matter that it writes: what it puts out is not kept, however much it is, but
     for the last line."""
-    with tempfile.TemporaryFile() as errors:
+    with files.scratch_file() as errors:
         status = calls.wait(words, folder, errors)
-        errors.seek(max(0, errors.seek(0, os.SEEK_END) - LAST_OF_ERRORS))
+        most = LAST_OF_REFUSAL if status in REFUSED else LAST_OF_ERRORS
+        errors.seek(max(0, errors.seek(0, os.SEEK_END) - most))
         return Done(status, b"", errors.read())
 
 
@@ -150,7 +152,7 @@ def accepted(done: Done) -> Done:
 @contextmanager
 def scratch_folder(beside: str = ".") -> Iterator[str]:
     """A folder beneath `beside`, named as `uxn` can name it (relative), that is gone at the end."""
-    with tempfile.TemporaryDirectory(prefix="uxn-", dir=beside) as folder:
+    with files.scratch_folder("uxn-", beside) as folder:
         yield os.path.relpath(folder, beside) if beside == "." else folder
 
 

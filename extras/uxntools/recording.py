@@ -3,11 +3,10 @@ start."""
 from __future__ import annotations
 
 import os
-import shutil
 from collections.abc import Callable
 from dataclasses import dataclass, field
 
-from uxntools import pictures, program, report, script
+from uxntools import files, pictures, program, report, script
 from uxntools.cli import Failure
 
 KEYS = {"enter": "0d", "escape": "1b", "tab": "09", "backspace": "08", "space": "20", "delete": "7f"}
@@ -75,23 +74,20 @@ class Recorder:
         its report."""
         words = [*self.words, "--script", self._path("script"), "--report", self._path("report"), *options]
         if self.root is not None:
-            shutil.rmtree(self._path("root"), ignore_errors=True)
-            shutil.copytree(self.root, self._path("root"), symlinks=True)
+            files.remove_folder(self._path("root"))
+            files.copy_root(self.root, self._path("root"))
             words += ["--root", self._path("root")]
         done = program.call("play", *words)
         if done.status >= 128:
             raise Wrong(done.line or f"uxn ended with {done.status}")
-        with open(self._path("report"), "rb") as file:
-            return done, report.read(file.read())
+        return done, report.read(files.read(self._path("report"), files.OUTPUT))
 
     def run(self) -> State:
         """Runs the program over the script, with a picture at its end. Whether the run is over by then tells an
         expect behind it, which is then not given."""
-        with open(self._path("script"), "wb") as file:
-            file.write(self.text() + b"shot\nexpect 0f 00\n")
+        files.put(self._path("script"), self.text() + b"shot\nexpect 0f 00\n")
         done, counts = self._play("--frames", self._path("frames"))
-        with open(self._path("frames"), "rb") as file:
-            films = pictures.whole_pictures(file.read())[0]
+        films = pictures.whole_pictures(files.read(self._path("frames"), files.OUTPUT))[0]
         expects = len(script.expects(self.text()))
         return State(
             done.out, done.err, done.status, counts, int(counts["expects"]) <= expects, films[-1] if films else None
@@ -122,8 +118,7 @@ class Recorder:
         """What a port holds now: the number of the expects that hit, each value expected as often as it says, is
         that value."""
         lines = "".join(f"expect {port} {value:02x}\n" * value for value in range(256))
-        with open(self._path("script"), "wb") as file:
-            file.write(self.text() + lines.encode())
+        files.put(self._path("script"), self.text() + lines.encode())
         before = self.state.count("expects") - self.state.count("misses") - 1
         _, counts = self._play()
         hits = int(counts["expects"]) - int(counts["misses"])
@@ -244,9 +239,8 @@ class Session:
     def _write_picture(self) -> None:
         picture = self.recorder.state.picture
         if picture is not None and not self.recorder.state.is_over:
-            os.makedirs(os.path.dirname(self.png) or ".", exist_ok=True)
-            with open(self.png, "wb") as file:
-                file.write(pictures.png(picture))
+            files.make_folder(os.path.dirname(self.png) or ".")
+            files.write(self.png, pictures.png(picture))
             self.say(f"the picture is in {self.png}")
 
 

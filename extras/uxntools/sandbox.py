@@ -9,18 +9,21 @@ import signal
 import stat
 import subprocess
 import sys
+import threading
 from collections.abc import Iterator
 from dataclasses import dataclass, field
+from typing import IO
 
-from uxntools import attached, program, source
+from uxntools import attached, cli, files, program, source
 from uxntools.cli import Failure
+from uxntools.files import Kind
 
 NOTHING_WAS_RUN = 201
 LIMIT_WAS_MET = 202
 FILES_FAILED = 136
-# How long a source or a setup is at most, and how many files a source is with those that it includes.
-MOST_TEXT = 4_194_304
-MOST_SOURCES = 257
+# How long any input is at most: that is a symbol file. And how often a run is looked at, in seconds.
+MOST_INPUT = files.SYMBOLS.most
+PAUSE = 0.05
 # Of each command the options that name an input, and those that name an output.
 RUN_OUTPUTS = ("--frames", "--samples", "--report")
 INPUTS = {"play": ("--script",), "debug": ("--script", "--commands", "--symbols"), "dis": ("--symbols",)}
@@ -39,12 +42,15 @@ class Refused(Failure):
 
 @dataclass(frozen=True)
 class Limits:
-    """The limits of a run: seconds of processor time, bytes of memory, bytes of a file, and files beneath the root."""
+    """The limits of a run: seconds of processor time, bytes of memory, of a file, of the root and the outputs together,
+    and of what is printed, and files beneath the root."""
 
     seconds: int
     memory: int
     size: int
     files: int
+    total: int
+    printed: int
 
     def apply(self) -> None:
         """Sets the limits of the process that becomes `uxn`. A write past the size fails: no signal ends it."""
@@ -114,20 +120,18 @@ def _named_by_setup(setup: str) -> list[str]:
 
 def read_text(path: str) -> bytes:
     """A source or setup as far as `uxn` takes it: nothing of one that is too long or not there. No link is followed."""
+    if not is_path(path):
+        return b""
     look_at_path(path, "input")
-    return source.read(path) if os.path.isfile(path) and os.path.getsize(path) <= MOST_TEXT else b""
+    try:
+        return source.read(path)
+    except OSError:
+        return b""
 
 
 def _sources(path: str) -> list[str]:
     """A source and the files beneath its folder that it includes."""
-    found, known = [path], {path}
-    for name in found:
-        for word in source.words(read_text(name)):
-            inner = source.included(path, word.text)
-            if inner and is_path(inner) and inner not in known and len(found) < MOST_SOURCES:
-                found.append(inner)
-                known.add(inner)
-    return found
+    return [name for name, _ in source.closure(path, read_text) if is_path(name)]
 
 
 def look_at_path(path: str, what: str) -> None:
@@ -159,15 +163,17 @@ def look_at_root(root: str) -> int:
     look_at_path(root, "root")
     if not os.path.isdir(root):
         raise Refused(f"root {root}: it is no folder")
+    for inner in files.mounts_beneath(root):
+        raise Refused(f"root {os.path.join(root, inner)}: it is another file system")
     device, count = os.stat(root).st_dev, 0
-    for folder, folders, files in os.walk(root, onerror=_raise):
-        for name in (*folders, *files):
+    for folder, folders, names in os.walk(root, onerror=_raise):
+        for name in (*folders, *names):
             path = os.path.join(folder, name)
             found = os.lstat(path)
             _look_at(path, found, "root")
             if found.st_dev != device:
                 raise Refused(f"root {path}: it is another file system")
-        count += len(folders) + len(files)
+        count += len(folders) + len(names)
     return count
 
 
@@ -179,23 +185,28 @@ def fill(folder: str, call: Call) -> None:
     """Makes the scratch folder: copies of the inputs, the folders of the outputs, and a place for the root."""
     for path in call.inputs:
         if os.path.isfile(path) and not is_beneath(path, call.root):
-            os.makedirs(os.path.dirname(os.path.join(folder, path)), exist_ok=True)
-            shutil.copyfile(path, os.path.join(folder, path))
+            files.copy_file(path, files.make_inner(folder, path), Kind(MOST_INPUT))
         elif os.path.isdir(path) and not is_beneath(path, call.root):
-            os.makedirs(os.path.join(folder, path), exist_ok=True)
+            files.make_inner(folder, os.path.join(path, ""))
     for path in call.outputs:
         made = path if os.path.isdir(path) else os.path.dirname(path)
         if os.path.isdir(made or ".") and not is_beneath(made, call.root):
-            os.makedirs(os.path.join(folder, made), exist_ok=True)
+            files.make_inner(folder, os.path.join(made, ""))
     if call.root is not None:
-        os.makedirs(os.path.join(folder, os.path.dirname(call.root)), exist_ok=True)
+        files.make_inner(folder, call.root)
+
+
+def look_at_input(path: str) -> None:
+    """Refuses an input by its path, and one that is longer than any may be."""
+    look_at_path(path, "input")
+    if os.path.isfile(path) and os.path.getsize(path) > MOST_INPUT:
+        raise Refused(f"input {path}: it has more than {MOST_INPUT:,} bytes")
 
 
 def libraries(uxn: str) -> list[str]:
     """The files of the C library that a program needs."""
-    with open(uxn, "rb") as file:
-        if file.read(4) != b"\x7fELF":
-            raise Refused(f"{uxn}: it is a script; put the path of the program itself into UXN")
+    if files.read_start(uxn, 4) != b"\x7fELF":
+        raise Refused(f"{uxn}: it is a script; put the path of the program itself into UXN")
     said = subprocess.run(["ldd", uxn], capture_output=True, text=True, check=False).stdout
     return LIBRARY.findall(said)
 
@@ -228,7 +239,7 @@ def is_isolating(uxn: str, isolation: str) -> bool:
         why = f"bubblewrap does not work here ({' '.join(tried.stderr.split())})"
     if isolation == "need":
         raise Refused(f"{why}, and nothing was run")
-    print(f"uxn-sandbox: {why}: the run has its limits alone", file=sys.stderr)
+    print(f"uxn-sandbox: {cli.shown(why)}: the run has its limits alone", file=sys.stderr)
     return False
 
 
@@ -236,9 +247,8 @@ def move_outputs(folder: str, call: Call) -> None:
     """Puts the outputs that were made into their places."""
     for path in call.outputs:
         made = os.path.join(folder, path)
-        if os.path.isfile(made) and not os.path.islink(made):
-            with open(made, "rb") as given, open(path, "wb") as file:
-                shutil.copyfileobj(given, file, 1 << 20)
+        if os.path.isfile(made) and not os.path.islink(made) and not is_beneath(path, call.root):
+            files.move(made, path)
 
 
 def sizes(folder: str, call: Call) -> Iterator[tuple[str, int]]:
@@ -248,8 +258,81 @@ def sizes(folder: str, call: Call) -> Iterator[tuple[str, int]]:
         for path in call.outputs
         if os.path.isfile(os.path.join(folder, path))
     )
-    for inner, _, files in os.walk(call.root) if call.root else ():
-        yield from ((os.path.join(inner, name), os.lstat(os.path.join(inner, name)).st_size) for name in files)
+    for inner, _, names in os.walk(call.root) if call.root else ():
+        yield from ((path, size) for path in (os.path.join(inner, name) for name in names) if (size := _size(path)))
+
+
+def _size(path: str) -> int:
+    """The size of a file; 0 of one that the run has just deleted."""
+    try:
+        return os.lstat(path).st_size
+    except OSError:
+        return 0
+
+
+class Watch:
+    """Watches a run beside it: hands on what it prints, and ends it where it prints or writes too much."""
+
+    def __init__(self, folder: str, call: Call, limits: Limits) -> None:
+        self.folder, self.call, self.limits = folder, call, limits
+        self.said: list[str] = []
+        self.left = limits.printed
+        self._lock = threading.Lock()
+        self._is_over = threading.Event()
+        self._threads: list[threading.Thread] = []
+
+    def begin(self, started: subprocess.Popen[bytes]) -> None:
+        assert started.stdout and started.stderr
+        for given, taken in ((started.stdout, sys.stdout.fileno()), (started.stderr, sys.stderr.fileno())):
+            self._start(self._hand_on, started, given, taken)
+        self._start(self._watch, started)
+
+    def _start(self, work: object, *words: object) -> None:
+        thread = threading.Thread(target=work, args=words, daemon=True)  # type: ignore[arg-type]
+        self._threads.append(thread)
+        thread.start()
+
+    def end(self) -> None:
+        """Waits for what was printed last, and looks at the files once more."""
+        self._is_over.set()
+        for thread in self._threads:
+            thread.join(10)
+        self._look()
+
+    def _hand_on(self, started: subprocess.Popen[bytes], given: IO[bytes], taken: int) -> None:
+        """Hands on what comes from a pipe. Where nobody takes it the pipe is closed, as it would be without this."""
+        with given:
+            while data := os.read(given.fileno(), 1 << 16):
+                with self._lock:
+                    data, self.left = data[: self.left], self.left - len(data)
+                try:
+                    while data:
+                        data = data[os.write(taken, data) :]
+                except OSError:
+                    return
+                if self.left < 0:
+                    self._stop(started, f"it has printed more than {self.limits.printed} bytes")
+                    return
+
+    def _watch(self, started: subprocess.Popen[bytes]) -> None:
+        while not self._is_over.wait(PAUSE):
+            if self._look():
+                started.kill()
+                return
+
+    def _stop(self, started: subprocess.Popen[bytes], line: str) -> None:
+        with self._lock:
+            if line not in self.said:
+                self.said.append(line)
+        started.kill()
+
+    def _look(self) -> bool:
+        """Whether the files are too much together."""
+        total = sum(size for _, size in sizes(self.folder, self.call))
+        line = f"the root and the outputs have more than {self.limits.total} bytes together"
+        if total > self.limits.total and line not in self.said:
+            self.said.append(line)
+        return total > self.limits.total
 
 
 def limits_met(status: int, folder: str, call: Call, limits: Limits) -> Iterator[str]:
@@ -274,7 +357,7 @@ def run(words: list[str], limits: Limits, isolation: str) -> int:
     """Looks at what a call of `uxn` names, runs it, and answers the status."""
     uxn, call = os.path.realpath(program.path_of_uxn()), read_call(words)
     for path in call.inputs:
-        look_at_path(path, "input")
+        look_at_input(path)
     for path in call.outputs:
         look_at_path(path, "output")
     if call.root is not None and look_at_root(call.root) > limits.files:
@@ -284,12 +367,14 @@ def run(words: list[str], limits: Limits, isolation: str) -> int:
         fill(folder, call)
         root = (os.path.abspath(call.root), call.root) if call.root is not None else None
         if root and not isolated:
-            os.symlink(root[0], os.path.join(folder, root[1]))
+            files.link(root[0], os.path.join(folder, root[1]))
         command = bubblewrap(uxn, folder, root) if isolated else [uxn]
-        status = attached.call([*command, *words], folder, limits.apply)
+        watch = Watch(folder, call, limits)
+        status = attached.call([*command, *words], folder, limits.apply, watch.begin)
+        watch.end()
         if status not in program.REFUSED:
             move_outputs(folder, call)
-        said = list(limits_met(status, folder, call, limits))
+        said = [*watch.said, *limits_met(status, folder, call, limits)]
     for line in said:
-        print(f"uxn-sandbox: {line}", file=sys.stderr)
+        print(f"uxn-sandbox: {cli.shown(line)}", file=sys.stderr)
     return LIMIT_WAS_MET if said else status

@@ -3,9 +3,14 @@ from __future__ import annotations
 
 import os
 import re
-from collections.abc import Iterator
+from collections.abc import Callable, Iterator
 from typing import NamedTuple
 
+from uxntools import files
+
+# How many files and bytes a source is read with; `uxn` takes 257, and 4,194,304.
+MOST_FILES, MOST_BYTES = 600, 8_388_608
+LONGEST_WORD = 255
 WORD = re.compile(rb"[^\x00-\x20]+")
 
 
@@ -59,14 +64,14 @@ def words(data: bytes, path: str = "") -> Iterator[Word]:
 
 def included(source: str, word: bytes) -> str | None:
     """The path that an include word names. It begins at the folder of the source, in whatever file it stands."""
-    if not word.startswith(b"~") or len(word) == 1:
+    if not word.startswith(b"~") or not 2 <= len(word) <= LONGEST_WORD:
         return None
     return os.path.join(os.path.dirname(source), os.fsdecode(word[1:]))
 
 
 def read(path: str) -> bytes:
-    with open(path, "rb") as file:
-        return file.read()
+    """The bytes of a source."""
+    return files.read(path, files.SOURCE)
 
 
 def flat_words(source: str, path: str | None = None, depth: int = 15) -> Iterator[Word]:
@@ -80,17 +85,28 @@ def flat_words(source: str, path: str | None = None, depth: int = 15) -> Iterato
             yield word
 
 
+def closure(path: str, read: Callable[[str], bytes] = read) -> Iterator[tuple[str, bytes | OSError]]:
+    """A source and the files that it includes, each once, in order of reading, with its bytes or why it cannot be
+    read. Past what `uxn` takes it ends early."""
+    found, known, size = [path], {path}, 0
+    for name in found:
+        try:
+            data = read(name)
+        except OSError as error:
+            yield name, error
+            continue
+        yield name, data
+        size += len(data)
+        for word in words(data) if b"~" in data and size <= MOST_BYTES else ():
+            inner = included(path, word.text)
+            if inner and inner not in known and len(found) < MOST_FILES:
+                found.append(inner)
+                known.add(inner)
+        if size > MOST_BYTES:
+            return
+
+
 def files_of(source: str) -> tuple[list[str], list[OSError]]:
     """The source and the files that it includes, each once, in order of reading; and why some of them could not be read."""
-    found, faults = [source], []
-    for path in found:
-        try:
-            data = read(path)
-        except OSError as error:
-            faults.append(error)
-            continue
-        for word in words(data):
-            inner = included(source, word.text)
-            if inner and inner not in found:
-                found.append(inner)
-    return found, faults
+    found = list(closure(source))
+    return [path for path, _ in found], [data for _, data in found if isinstance(data, OSError)]

@@ -4,16 +4,15 @@ from __future__ import annotations
 
 import argparse
 import os
-import shutil
-import tempfile
 from collections.abc import Iterator, Mapping, Sequence
 from concurrent.futures import ThreadPoolExecutor
-from contextlib import contextmanager
+from contextlib import ExitStack, contextmanager
 from dataclasses import dataclass, field
 from types import MappingProxyType
 
-from uxntools import listing, program, source, symbols
+from uxntools import files, listing, program, source, symbols
 from uxntools.cli import Failure
+from uxntools.files import Kind
 from uxntools.listing import Row
 from uxntools.program import Calls, Done
 from uxntools.symbols import Labels
@@ -41,14 +40,15 @@ class Target:
         valued = {"--script": self.script, "--root": self.root, "--budget": self.budget}
         return ["--rom"] * self.rom + [f"{name}={value}" for name, value in valued.items() if value is not None]
 
-    def inputs(self) -> list[str]:
-        """The files that a run reads, but for those beneath its root."""
-        found = [self.source] if self.rom else self._sources()
-        return found + [path for path in (self.script, self.symbols) if path is not None]
+    def inputs(self) -> dict[str, Kind]:
+        """The files that a run reads, but for those beneath its root, each with its kind."""
+        found = {self.source: files.ROM} if self.rom else dict.fromkeys(self._sources(), files.SOURCE)
+        named = ((self.script, files.SCRIPT), (self.symbols, files.SYMBOLS))
+        return {**{path: kind for path, kind in named if path is not None}, **found}
 
     def _sources(self) -> list[str]:
-        files = source.files_of(os.path.join(self.folder, self.source))[0]
-        return [os.path.relpath(path, self.folder) for path in files] if self.folder else files
+        found = source.files_of(os.path.join(self.folder, self.source))[0]
+        return [os.path.relpath(path, self.folder) for path in found] if self.folder else found
 
 
 def add_arguments(parser: argparse.ArgumentParser) -> None:
@@ -105,19 +105,32 @@ class Workspace:
         self.shortened: bytes | None = None
         self.cut: int | None = None
         self._calls = Calls()
-        self._scratch = tempfile.TemporaryDirectory(prefix="uxn-tool-")
-        self._files = os.path.join(self._scratch.name, "files")
-        os.mkdir(self._files)
-        for path in target.inputs():
-            self._copy(path, shutil.copyfile)
-        if target.root is not None:
-            is_file = os.path.isfile(os.path.join(target.folder, target.root))
-            self._copy(target.root, shutil.copyfile if is_file else shutil.copytree)
-            if target.makes_root:
-                os.makedirs(self.path(target.root), exist_ok=True)
+        self._kept = ExitStack()
+        self._scratch = self._kept.enter_context(files.scratch_folder("uxn-tool-"))
+        self._files = os.path.join(self._scratch, "files")
+        files.make_folder(self._files)
+        try:
+            self._fill()
+        except BaseException:
+            self.close()
+            raise
+
+    def _fill(self) -> None:
+        for path, kind in self.target.inputs().items():
+            if (there := self._place(path)) and files.is_file(os.path.join(self.target.folder, path)):
+                files.copy_file(os.path.join(self.target.folder, path), there, kind)
+        root = self.target.root
+        if root is not None and (there := self._place(root)):
+            here = os.path.join(self.target.folder, root)
+            if files.is_file(here):
+                files.copy_file(here, there, files.OUTPUT)
+            elif os.path.lexists(here):
+                files.copy_root(here, there, self.target.folder or ".")
+        if root is not None and self.target.makes_root:
+            files.make_folder(self.path(root))
 
     def close(self) -> None:
-        self._scratch.cleanup()
+        self._kept.close()
 
     def __enter__(self) -> Workspace:
         return self
@@ -125,15 +138,14 @@ class Workspace:
     def __exit__(self, *_: object) -> None:
         self.close()
 
-    def _copy(self, path: str, copy: object) -> None:
-        here, there = os.path.join(self.target.folder, path), os.path.join(self._files, path)
-        if not is_plain(path) or os.path.lexists(there) or not os.path.exists(here):
-            return
-        os.makedirs(os.path.dirname(there), exist_ok=True)
-        try:
-            copy(here, there, **({"symlinks": True} if copy is shutil.copytree else {}))  # type: ignore[operator]
-        except (IsADirectoryError, shutil.SpecialFileError):
-            pass
+    def _place(self, path: str) -> str | None:
+        """Where the copy of a file is made, if `uxn` takes its path and it is not there yet."""
+        if not is_plain(path) or os.path.lexists(self.path(path)) or not os.path.exists(self._here(path)):
+            return None
+        return files.make_inner(self._files, path)
+
+    def _here(self, path: str) -> str:
+        return os.path.join(self.target.folder, path)
 
     def path(self, name: str) -> str:
         """Where the copy of an input lies."""
@@ -153,7 +165,7 @@ class Workspace:
     @contextmanager
     def folder(self) -> Iterator[str]:
         """A folder for one call: its root is a copy, all else are links."""
-        with tempfile.TemporaryDirectory(prefix="run-", dir=self._scratch.name) as folder:
+        with files.scratch_folder("run-", self._scratch) as folder:
             root = self.target.root
             parts = root.split("/") if root is not None and is_plain(root) else []
             self._link_all(folder, parts)
@@ -166,13 +178,13 @@ class Workspace:
             _link(copies, folder, part)
             copies, folder = os.path.join(copies, part), os.path.join(folder, part)
             if depth < len(root) - 1:
-                os.makedirs(folder, exist_ok=True)
+                files.make_folder(folder)
         if not root:
             _link(copies, folder, None)
         elif os.path.isdir(copies):
-            shutil.copytree(copies, folder, symlinks=True)
+            files.copy_root(copies, folder)
         elif os.path.exists(copies):
-            shutil.copyfile(copies, folder)
+            files.copy_file(copies, folder, files.OUTPUT)
 
     def debug(self, commands: Sequence[str]) -> list[str]:
         """The lines of the log of these commands (latin-1), over the present run."""
@@ -191,9 +203,9 @@ class Workspace:
         words: Sequence[str],
         commands: bytes,
         script: bytes | None,
-        files: Mapping[str, bytes] = MappingProxyType({}),
+        given: Mapping[str, bytes] = MappingProxyType({}),
     ) -> bytes:
-        own = {**files, "commands": commands} | ({} if script is None else {"script": script})
+        own = {**given, "commands": commands} | ({} if script is None else {"script": script})
         done, outputs = self.call(["debug", *words, f"--commands={OWN}commands", f"--log={OWN}log"], own, ["log"])
         program.accepted(done)
         return outputs["log"]
@@ -201,9 +213,9 @@ class Workspace:
     def play(self, script: bytes, *outputs: str, budget: int | None = None) -> dict[str, bytes]:
         """The outputs (`frames`, `report`, ..) of a run over the given script, and with another budget where one is
         given."""
-        done, files = self.try_play(script, *outputs, budget=budget)
+        done, made = self.try_play(script, *outputs, budget=budget)
         program.accepted(done)
-        return files
+        return made
 
     def try_play(self, script: bytes, *outputs: str, budget: int | None = None) -> tuple[Done, dict[str, bytes]]:
         """The same of a call that may be refused or end early."""
@@ -224,14 +236,13 @@ class Workspace:
         return kept + [name + value for name, value in own.items()]
 
     def call(
-        self, words: Sequence[str], files: Mapping[str, bytes], outputs: Sequence[str]
+        self, words: Sequence[str], given: Mapping[str, bytes], outputs: Sequence[str]
     ) -> tuple[Done, dict[str, bytes]]:
         """Calls `uxn` with files of the tool's own, and answers those that it was to write: empty where it did
         not."""
         with self.folder() as folder:
-            for name, data in files.items():
-                with open(os.path.join(folder, OWN + name), "wb") as file:
-                    file.write(data)
+            for name, data in given.items():
+                files.put(os.path.join(folder, OWN + name), data)
             done = program.call_for_files(*words, folder=folder, calls=self._calls)
             return done, {name: _data(os.path.join(folder, OWN + name)) for name in outputs}
 
@@ -289,13 +300,13 @@ def _link(copies: str, folder: str, leave: str | None) -> None:
     """Makes links in a folder to what another has, but for one name."""
     for name in os.listdir(copies) if os.path.isdir(copies) else []:
         if name != leave:
-            os.symlink(os.path.join(copies, name), os.path.join(folder, name))
+            files.link(os.path.join(copies, name), os.path.join(folder, name))
 
 
 def _data(path: str) -> bytes:
     try:
-        return source.read(path)
-    except OSError:
+        return files.read(path, files.MADE)
+    except FileNotFoundError:
         return b""
 
 

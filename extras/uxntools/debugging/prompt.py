@@ -4,11 +4,10 @@ from __future__ import annotations
 import cmd
 import os
 import re
-import shutil
 import sys
 from collections.abc import Callable
 
-from uxntools import log, pictures, places, source
+from uxntools import files, log, pictures, places
 from uxntools.cli import Failure
 from uxntools.debugging import saving
 from uxntools.debugging.frames import Frame
@@ -273,8 +272,7 @@ class Prompt(cmd.Cmd):
             raise Failure("there is no picture: the program ends its run in the first event")
         paths = [f"{name}.png"] if len(found) == 1 else [f"{name}-before.png", f"{name}-after.png"]
         for path, shot in zip(paths, found):
-            with open(path, "wb") as file:
-                file.write(pictures.png(shot.picture))
+            files.write(path, pictures.png(shot.picture))
             print(f"{path}: the screen {shot.shows}")
 
     def do_output(self, words: list[str]) -> None:
@@ -326,21 +324,20 @@ def none(words: list[str]) -> None:
 def save(session: Session, name: str) -> None:
     """Writes the commands of a session and their log, and beside them the script and the files that it ran with."""
     commands, shown = saving.saved(session)
-    os.makedirs(os.path.dirname(name) or ".", exist_ok=True)
+    files.make_folder(os.path.dirname(name) or ".")
     written = {f"{name}.commands": commands, f"{name}.log": shown}
     target = session.target
     if target.script is not None and target.script != f"{name}.script":
-        written[f"{name}.script"] = source.read(session.workspace.path(target.script))
+        written[f"{name}.script"] = files.read(session.workspace.path(target.script), files.SCRIPT)
     for path, data in written.items():
-        with open(path, "wb") as file:
-            file.write(data)
+        files.write(path, data)
     print(f"written: {', '.join(written)}")
     if (
         target.root is not None
         and os.path.isdir(session.workspace.path(target.root))
-        and not os.path.exists(f"{name}.root")
+        and not os.path.lexists(f"{name}.root")
     ):
-        shutil.copytree(session.workspace.path(target.root), f"{name}.root", symlinks=True)
+        files.copy_root(session.workspace.path(target.root), f"{name}.root")
         print(f"written: {name}.root")
 
 

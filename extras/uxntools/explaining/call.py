@@ -6,7 +6,8 @@ import re
 from collections.abc import Callable
 from dataclasses import dataclass
 
-from uxntools import program, source
+from uxntools import files, program, source
+from uxntools.cli import shown
 from uxntools.explaining import Reason, arguments, lines, quoted, sources
 from uxntools.explaining.arguments import Words
 
@@ -17,6 +18,8 @@ TEXT_LINE = re.compile(r"(?P<of>script|commands|setup|symbols) (?P<line>\d+): (?
 NO_PATH, NO_FILE, CLASH, ROM = (
     re.compile(it, re.DOTALL) for it in (r"path: (.*)", r"missing: (.*)", r"output: (.*)", r"rom: (\d+) bytes")
 )
+# How many bytes of a long line are shown, and how many of them before the faulty word.
+MOST_OF_LINE, MOST_BEFORE = 300, 80
 
 
 @dataclass
@@ -28,14 +31,14 @@ class Explanation:
     reasons: tuple[Reason, ...] = ()
 
     def text(self) -> str:
-        parts = [self.place, self.excerpt] + [line for reason in self.reasons for line in reason.lines()]
+        lines = [line for reason in self.reasons for line in reason.lines()]
+        parts = [shown(self.place), self.excerpt, *map(shown, lines)]
         return "".join(part + "\n" for part in parts if part)
 
 
 def _line_of(path: str, number: int) -> str | None:
     try:
-        with open(path, "rb") as file:
-            found = file.read().split(b"\n")
+        found = files.read(path).split(b"\n")
     except OSError:
         return None
     return found[number - 1].decode(errors="surrogateescape").rstrip("\r") if 0 < number <= len(found) else None
@@ -51,11 +54,13 @@ def _excerpt(path: str, number: int, column: int = 0, length: int = 0) -> str:
     if line is None:
         return ""
     head = f"{number:5} | "
+    data = os.fsencode(line)
+    first = max(column - 1 - MOST_BEFORE, 0) if len(data) > MOST_OF_LINE else 0
+    line = os.fsdecode(data[first : first + MOST_OF_LINE])
     if not column:
         return head + _shown(line)
-    data = os.fsencode(line)
-    before = data[: column - 1].decode(errors="replace")
-    marked = data[column - 1 : column - 1 + length].decode(errors="replace")
+    before = data[first : column - 1].decode(errors="replace")
+    marked = data[column - 1 : min(column - 1 + length, first + MOST_OF_LINE)].decode(errors="replace")
     blanks = re.sub(r"[^\t]", " ", before)
     return f"{head}{_shown(line)}\n      | {blanks}{'^' * max(1, len(marked))}"
 
@@ -63,8 +68,7 @@ def _excerpt(path: str, number: int, column: int = 0, length: int = 0) -> str:
 def machines(setup: str) -> list[str]:
     """The sources of a setup's machines."""
     try:
-        with open(setup, "rb") as file:
-            found = [line.split() for line in file.read().split(b"\n")]
+        found = [line.split() for line in files.read(setup, files.SETUP).split(b"\n")]
     except OSError:
         return []
     return [os.fsdecode(words[1]) for words in found if len(words) == 2 and words[0] == b"machine"]
@@ -109,8 +113,7 @@ def _path_of(of: str, words: Words) -> str:
 
 def _setup_script(setup: str) -> str:
     try:
-        with open(setup, "rb") as file:
-            found = [line.split() for line in file.read().split(b"\n")]
+        found = [line.split() for line in files.read(setup, files.SETUP).split(b"\n")]
     except OSError:
         return ""
     return next((os.fsdecode(it[1]) for it in found if len(it) == 2 and it[0] == b"script"), "")
@@ -118,9 +121,8 @@ def _setup_script(setup: str) -> str:
 
 def _first_words(path: str) -> list[str]:
     try:
-        with open(path, "rb") as file:
-            found = (os.fsdecode(line).split() for line in file.read(4_194_304).split(b"\n"))
-            return next((words for words in found if words and not words[0].startswith("#")), [])
+        found = (os.fsdecode(line).split() for line in files.read(path, files.SCRIPT).split(b"\n"))
+        return next((words for words in found if words and not words[0].startswith("#")), [])
     except OSError:
         return []
 

@@ -5,7 +5,7 @@ import os
 import subprocess
 import sys
 
-from uxntools import cli, program
+from uxntools import cli, files, program
 from uxntools.cli import Failure
 from uxntools.explaining import arguments, call
 
@@ -22,7 +22,11 @@ def explain_call(words: list[str]) -> int:
     """Makes the call, and explains its refusal."""
     done = subprocess.run([program.path_of_uxn(), *words], stderr=subprocess.PIPE, check=False)
     sys.stdout.flush()
-    sys.stderr.buffer.write(done.stderr)
+    is_long = done.returncode >= 128 and len(done.stderr) > cli.MOST_SIGNS
+    if is_long:
+        say(cli.shown(done.stderr.decode(errors="surrogateescape").rstrip("\n")) + "\n")
+    else:
+        sys.stderr.buffer.write(done.stderr)
     sys.stderr.flush()
     if 0 <= done.returncode < 128:
         return done.returncode
@@ -61,7 +65,7 @@ def main() -> int:
     if not words:
         if sys.stdin.isatty():
             raise Failure("give a call, as in uxn-explain uxn asm a.tal, or a line (see uxn-explain --help)", 2)
-        said = sys.stdin.buffer.read().decode(errors="surrogateescape").rstrip("\n")
+        said = files.read_input().decode(errors="surrogateescape").rstrip("\n")
         return explain_alone(said.rpartition("\n")[2])
     if words[0].startswith("-"):
         raise Failure(f"there is no option {words[0]} (see uxn-explain --help)", 2)

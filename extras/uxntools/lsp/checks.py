@@ -9,7 +9,7 @@ from collections.abc import Callable
 
 from uxntools import assembly, lint, source
 from uxntools.analysis import Analysis
-from uxntools.cli import Failure
+from uxntools.cli import Failure, shown
 from uxntools.lsp.documents import range_of, uri_of
 from uxntools.lsp.protocol import Json
 from uxntools.source import Word
@@ -123,10 +123,10 @@ class Checker:
         try:
             found = of_source(main, buffers)
         except (Failure, OSError) as failure:
-            self._fail(failure.line if isinstance(failure, Failure) else f"{main}: {failure.strerror}")
+            self._fail(shown(failure.line if isinstance(failure, Failure) else f"{main}: {failure.strerror}"))
             return
         except Exception as error:  # a mistake of the server's own, which has to go on
-            print(f"uxn-lsp: {main}: {error!r}", file=sys.stderr)
+            print(shown(f"uxn-lsp: {main}: {error!r}"), file=sys.stderr)
             return
         with self._changed:
             if main not in self._wanted:

@@ -3,6 +3,7 @@ from __future__ import annotations
 
 import os
 from collections.abc import Iterator
+from itertools import islice
 
 from uxntools import opcodes, ports
 from uxntools.analysis import RUNES
@@ -13,6 +14,8 @@ from uxntools.lsp.workspace import Spot
 
 FUNCTION, FIELD, KEYWORD, SNIPPET, FILE, CONSTANT = 3, 5, 14, 15, 17, 21
 MOST = 300
+# How many folders are looked into for files, and how many names of each are taken.
+MOST_FOLDERS, MOST_NAMES = 1000, 1000
 
 
 def complete(spot: Spot) -> Json:
@@ -109,13 +112,13 @@ def _sublabels(spot: Spot, before: str) -> Iterator[tuple[str, int, str]]:
 def _files(spot: Spot) -> Iterator[tuple[str, int, str]]:
     """The files below the source's folder that it could include."""
     top = os.path.dirname(spot.found.path)
-    for folder, folders, names in os.walk(top):
+    for folder, folders, names in islice(os.walk(top), MOST_FOLDERS):
         folders[:] = (
             sorted(name for name in folders if not name.startswith("."))[:64]
             if folder.count("/") - top.count("/") < 4
             else []
         )
-        for name in sorted(names):
+        for name in sorted(names)[:MOST_NAMES]:
             path = os.path.join(folder, name)
             if name.endswith(".tal") and path not in (spot.found.path, spot.path):
                 yield "~" + os.path.relpath(path, top), FILE, "a file"

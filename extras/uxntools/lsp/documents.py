@@ -9,6 +9,10 @@ from uxntools.lsp.protocol import INVALID_PARAMS, Json, Refusal
 from uxntools.source import Word
 
 
+# How many bytes of files that are not open are kept.
+MOST_KEPT = 33_554_432
+
+
 def path_of(uri: str) -> str:
     """The path of a file's URI."""
     parts = urlsplit(uri)
@@ -79,6 +83,7 @@ class Files:
         self.open: dict[str, Document] = {}
         self.generation = 0
         self._kept: dict[str, tuple[tuple[int, int], bytes]] = {}
+        self._size = 0
 
     def read(self, path: str) -> bytes:
         """The bytes of a file: of its buffer where it is open."""
@@ -91,6 +96,9 @@ class Files:
         if kept and kept[0] == stamp:
             return kept[1]
         data = source.read(path)
+        self._size += len(data)
+        if self._size > MOST_KEPT:
+            self._kept, self._size = {}, len(data)
         self._kept[path] = (stamp, data)
         return data
 

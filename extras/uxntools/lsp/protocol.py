@@ -9,7 +9,9 @@ Json = dict[str, Any]
 
 PARSE_ERROR, INVALID_REQUEST, METHOD_NOT_FOUND, INVALID_PARAMS, INTERNAL_ERROR = -32700, -32600, -32601, -32602, -32603
 NOT_INITIALIZED, REQUEST_FAILED = -32002, -32803
-LONGEST = 1 << 28
+LONGEST = 1 << 25
+# What is read at the end of the input; `null` is a message.
+END: Any = object()
 
 
 class Refusal(Exception):
@@ -31,28 +33,27 @@ class Channel:
         self._given, self._taken = given, taken
         self._lock = threading.Lock()
 
-    def read(self) -> Json | list[Any] | None:
-        """The next message; None at the end of the input."""
+    def read(self) -> Any:
+        """The next message, or END."""
         length = None
         while True:
             line = self._given.readline(1 << 16)
             if not line:
-                return None
+                return END
             if line.strip() == b"":
                 break
             name, _, value = line.partition(b":")
             if name.strip().lower() == b"content-length":
-                length = int(value) if value.strip().isdigit() else None
+                length = int(value) if value.strip().isdigit() and len(value) < 20 else None
         if length is None or length > LONGEST:
             raise Broken("a message has no Content-Length")
         data = self._given.read(length)
         if len(data) < length:
-            return None
+            return END
         try:
-            message: Json | list[Any] = json.loads(data)
+            return json.loads(data)
         except (ValueError, RecursionError):
             raise Refusal(PARSE_ERROR, "the message is no JSON") from None
-        return message
 
     def write(self, message: Json) -> None:
         data = json.dumps(message, separators=(",", ":")).encode("utf-8", "surrogatepass")

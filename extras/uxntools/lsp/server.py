@@ -6,6 +6,7 @@ from collections.abc import Callable
 from typing import Any
 
 from uxntools.analysis import rows
+from uxntools.cli import shown
 from uxntools.layout import laid_out
 from uxntools.lsp import completion, names, outline
 from uxntools.lsp.checks import Checker
@@ -13,6 +14,7 @@ from uxntools.lsp.documents import Document, path_of, units
 from uxntools.lsp.hover import hover
 from uxntools.lsp.protocol import (
     INTERNAL_ERROR,
+    END,
     INVALID_PARAMS,
     INVALID_REQUEST,
     METHOD_NOT_FOUND,
@@ -86,7 +88,7 @@ class Server:
                 except Refusal as refusal:
                     self.channel.refuse(None, refusal)
                     continue
-                if message is None or isinstance(message, dict) and message.get("method") == "exit":
+                if message is END or isinstance(message, dict) and message.get("method") == "exit":
                     return 0 if self.is_shut_down else 1
                 self._take(message)
         except Broken as broken:
@@ -117,15 +119,17 @@ class Server:
         if self.is_shut_down:
             raise Refusal(INVALID_REQUEST, "the server was shut down")
         if handler is None:
-            raise Refusal(METHOD_NOT_FOUND, f"there is no {method}")
+            raise Refusal(METHOD_NOT_FOUND, shown(f"there is no {method}"))
         try:
             return handler(params)
         except (KeyError, TypeError, AttributeError) as error:
-            print(f"uxn-lsp: {method}: {error!r}", file=sys.stderr)
-            raise Refusal(INVALID_PARAMS, f"{method}: {error!r}") from None
-        except (ValueError, IndexError, OSError) as error:
-            print(f"uxn-lsp: {method}: {error!r}", file=sys.stderr)
-            raise Refusal(INTERNAL_ERROR, f"{method}: {error!r}") from None
+            print(shown(f"uxn-lsp: {method}: {error!r}"), file=sys.stderr)
+            raise Refusal(INVALID_PARAMS, shown(f"{method}: {error!r}")) from None
+        except Refusal:
+            raise
+        except Exception as error:
+            print(shown(f"uxn-lsp: {method}: {error!r}"), file=sys.stderr)
+            raise Refusal(INTERNAL_ERROR, shown(f"{method}: {error!r}")) from None
 
     def _initialize(self, params: Json) -> Json:
         roots = [folder["uri"] for folder in params.get("workspaceFolders") or []] or [params.get("rootUri")]

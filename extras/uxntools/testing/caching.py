@@ -15,9 +15,9 @@ from collections.abc import Sequence
 from dataclasses import dataclass
 from typing import Any
 
-from uxntools import source
+from uxntools import files, source
 from uxntools.testing.discovery import WANTED, Test
-from uxntools.testing.running import Result, kept_folder
+from uxntools.testing.running import KEPT, Result, kept_folder
 
 FORMAT = 1
 # How long a file has to be at rest, in nanoseconds, and how many bytes of a result are kept.
@@ -25,6 +25,13 @@ REST = 50_000_000
 MOST = 4_000_000
 # Results that no run asked for in so many days are dropped.
 DAYS = 30
+RESULTS = os.path.join(KEPT, "results.sqlite")
+TABLES = {
+    "files": "(path BLOB PRIMARY KEY, stamp TEXT, digest BLOB, includes TEXT)",
+    "results": "(key BLOB PRIMARY KEY, passed BLOB, data BLOB, used INTEGER)",
+}
+# What rows give that no tool has written.
+BAD_ROWS = (ValueError, TypeError, KeyError, AttributeError, RecursionError)
 
 
 @dataclass
@@ -88,8 +95,7 @@ class Digests:
             return known
         now = time.time_ns()
         try:
-            with open(path, "rb") as file:
-                data = file.read()
+            data = files.read(path, files.SOURCE if is_source else files.OUTPUT)
         except OSError:
             return None
         if stamp is None:
@@ -104,28 +110,23 @@ class Digests:
         there with none."""
         top = os.path.dirname(path)
         found: dict[str, bytes] = {}
-        waiting = [path]
-        while waiting:
+        waiting, size = [path], 0
+        while waiting and len(found) < source.MOST_FILES and size <= source.MOST_BYTES:
             file = waiting.pop()
             if file in found:
                 continue
             known = self.of(file, is_source=True)
             found[file] = known.digest if known else b""
+            size += known.stamp[0] if known else 0
             waiting += [os.path.join(top, name) for name in (known.includes or () if known else ())]
         return sorted(found.items())
 
-    def of_tree(self, folder: str) -> bytes:
-        """The digest of all that lies beneath a folder. A link to a folder may lead anywhere: with one the digest is a
-        new one each time, so that no result of it is found again."""
+    def of_tree(self, folder: str, beneath: str) -> bytes:
+        """The digest of all that lies beneath a root, which is refused where it cannot be copied."""
         parts: list[bytes | str] = []
-        for path, names, files in os.walk(folder):
-            names.sort()
-            parts.append(os.path.relpath(path, folder))
-            if any(os.path.islink(os.path.join(path, name)) for name in names):
-                parts.append(os.urandom(32))
-            for name in sorted(files):
-                known = self.of(os.path.join(path, name))
-                parts += [name, known.digest if known else b""]
+        for path in files.list_root(folder, beneath):
+            known = None if path.endswith("/") else self.of(os.path.join(folder, path))
+            parts += [path, known.digest if known else b""]
         return _hash(parts)
 
 
@@ -212,7 +213,8 @@ class Keys:
             known = self.digests.of(path)
             parts.append(known.digest if known else b"")
         if test.has_root:
-            parts.append(self.digests.of_tree(os.path.join(test.folder, test.root)) if test.root else b"empty")
+            root = os.path.join(test.folder, test.root) if test.root else ""
+            parts.append(self.digests.of_tree(root, test.folder) if os.path.lexists(root) else b"empty")
         return _hash(parts)
 
     def of_wanted(self, test: Test) -> bytes:
@@ -221,7 +223,7 @@ class Keys:
         parts: list[bytes | str] = [str(FORMAT), str((settings.ignore, settings.cuts, settings.misses))]
         for part in WANTED:
             if part == "after" and test.has(part):
-                parts += [part, self.digests.of_tree(test.full_path(part))]
+                parts += [part, self.digests.of_tree(test.full_path(part), test.folder)]
             elif test.has(part):
                 known = self.digests.of(test.full_path(part))
                 parts += [part, known.digest if known else b""]
@@ -230,8 +232,8 @@ class Keys:
 
 def _lines(path: str) -> list[list[str]]:
     try:
-        with open(path, "rb") as file:
-            return [[os.fsdecode(word) for word in line.split()] for line in file.read().split(b"\n")]
+        lines = files.read(path, files.SETUP).split(b"\n")
+        return [[os.fsdecode(word) for word in line.split()] for line in lines]
     except OSError:
         return []
 
@@ -247,7 +249,8 @@ def packed(result: Result) -> bytes:
 
 
 def unpacked(data: bytes) -> Result:
-    head, _, rest = zlib.decompress(data).partition(b"\n")
+    """The result that was packed; a ValueError of bytes that are none."""
+    head, _, rest = zlib.decompressobj().decompress(data, 2 * MOST).partition(b"\n")
     status, lengths, after_lengths = json.loads(head)
     at, found = 0, []
     for table in (lengths, after_lengths or {}):
@@ -256,6 +259,8 @@ def unpacked(data: bytes) -> Result:
             taken[name] = rest[at : at + length]
             at += length
         found.append(taken)
+    if not isinstance(status, int) or not {"out", "err"} <= set(found[0]) or at > len(rest):
+        raise ValueError("it is no result")
     return Result(status, found[0], None if after_lengths is None else found[1])
 
 
@@ -264,32 +269,45 @@ class Store:
     nothing is kept."""
 
     def __init__(self, folder: str) -> None:
-        self.base = self._open(os.path.join(kept_folder(folder), "results.sqlite"))
+        self.folder = folder
+        kept_folder(folder)
+        self.base = self._open()
         self.today = int(time.time() // 86400)
         self.passed: dict[bytes, bytes] = {}
         self.used: list[bytes] = []
+        self.old: set[bytes] = set()
+        try:
+            self.digests = self._load()
+        except BAD_ROWS:
+            # It was written by something else.
+            self._remove()
+            self.base, self.digests = self._open(), Digests({})
+
+    def _load(self) -> Digests:
+        """Reads the kept digests, and which results have passed."""
         rows = self._rows("SELECT path, stamp, digest, includes FROM files")
         known = {os.fsdecode(path): _file_digest(stamp, digest, includes) for path, stamp, digest, includes in rows}
-        self.digests = Digests(known)
         self.old = {key for key, used in self._rows("SELECT key, used FROM results") if used < self.today}
         self.passed.update(self._rows("SELECT key, passed FROM results WHERE passed IS NOT NULL"))
+        return Digests(known)
 
-    @staticmethod
-    def _open(path: str) -> sqlite3.Connection | None:
+    def _open(self) -> sqlite3.Connection | None:
         for _ in range(2):
             try:
-                base = sqlite3.connect(path, timeout=20)
-                base.execute("PRAGMA synchronous = OFF")
-                base.execute(
-                    "CREATE TABLE IF NOT EXISTS files (path BLOB PRIMARY KEY, stamp TEXT, digest BLOB, includes TEXT)"
-                )
-                base.execute(
-                    "CREATE TABLE IF NOT EXISTS results (key BLOB PRIMARY KEY, passed BLOB, data BLOB, used INTEGER)"
-                )
+                base = files.database(RESULTS, self.folder)
+                _make_tables(base)
                 return base
-            except sqlite3.DatabaseError:
-                _remove(path)
+            except (sqlite3.DatabaseError, ValueError):
+                self._remove()
+            except OSError:
+                return None
         return None
+
+    def _remove(self) -> None:
+        try:
+            files.remove(RESULTS, self.folder)
+        except OSError:
+            pass
 
     def _rows(self, question: str, *values: object) -> list[Any]:
         try:
@@ -310,7 +328,7 @@ class Store:
         for (data,) in self._rows("SELECT data FROM results WHERE key = ? AND data IS NOT NULL", key):
             try:
                 return unpacked(data)
-            except (zlib.error, ValueError, KeyError, TypeError):
+            except (zlib.error, *BAD_ROWS):
                 return None
         return None
 
@@ -362,8 +380,13 @@ def _file_digest(stamp: str, digest: bytes, includes: str | None) -> FileDigest:
     )
 
 
-def _remove(path: str) -> None:
-    try:
-        os.unlink(path)
-    except OSError:
-        pass
+def _make_tables(base: sqlite3.Connection) -> None:
+    """Makes the tables where they are not there. A base with anything else, as a view in the place of a table, was
+    written by something else, and is a ValueError."""
+    base.execute("PRAGMA trusted_schema = OFF")
+    base.execute("PRAGMA synchronous = OFF")
+    for name, kind, words in base.execute("SELECT name, type, sql FROM sqlite_master WHERE sql IS NOT NULL"):
+        if kind != "table" or words != f"CREATE TABLE {name} {TABLES.get(name)}":
+            raise ValueError(f"{name} is no table of uxn-test")
+    for name, columns in TABLES.items():
+        base.execute(f"CREATE TABLE IF NOT EXISTS {name} {columns}")

@@ -9,7 +9,7 @@ import sys
 import time
 from collections.abc import Sequence
 
-from uxntools import cli
+from uxntools import cli, files
 from uxntools.testing import comparing, showing, updating, warning
 from uxntools.testing.discovery import Test, discover
 from uxntools.testing.reporting import Reporter, TapReporter, junit
@@ -117,8 +117,7 @@ def run_all(tests: Sequence[Test], session: Session, reporter: Reporter) -> int:
 
 
 def write_junit(path: str, outcomes: Sequence[Outcome], start: float) -> None:
-    with open(path, "w", encoding="utf-8", errors="replace") as file:
-        file.write(junit(outcomes, time.monotonic() - start))
+    files.write(path, junit(outcomes, time.monotonic() - start).encode(errors="replace"))
 
 
 def update(tests: Sequence[Test], session: Session, allowed: frozenset[str]) -> int:

@@ -4,10 +4,10 @@ from __future__ import annotations
 import os
 from dataclasses import dataclass
 
-from uxntools import program, script
+from uxntools import files, program, report, script
 from uxntools.testing.configuration import NAME
 from uxntools.testing.discovery import WANTED, Test
-from uxntools.testing.running import Result, files_beneath
+from uxntools.testing.running import Result
 
 # The kinds of faults that are recorded only by name.
 REFUSAL, EARLY, CUT, MISS = "refusal", "early", "cut", "miss"
@@ -30,14 +30,14 @@ class Fault:
 
 def wanted_bytes(test: Test, part: str) -> bytes:
     """The bytes of a part that is there."""
-    with open(test.full_path(part), "rb") as file:
-        return file.read()
+    return files.read(test.full_path(part), files.SCRIPT if part == "script" else files.OUTPUT)
 
 
 def wanted_status(test: Test) -> int:
     """The status that a test wants: 0 where it has no file that says so; -1 where that file holds no number."""
     text = wanted_bytes(test, "status").strip() if test.has("status") else b"0"
-    return int(text) if text.isdigit() else -1
+    number = report.number(text.decode("latin-1"))
+    return -1 if number is None else number
 
 
 def wanted_lines(test: Test) -> dict[str, str]:
@@ -52,7 +52,7 @@ def wanted_after(test: Test) -> dict[str, bytes]:
     """The files beneath the root after the run: as before it where nothing else is said."""
     part = "after" if test.has("after") else None
     folder = test.full_path(part) if part else os.path.join(test.folder, test.root or "")
-    return files_beneath(folder)
+    return files.read_all(folder, test.folder) if part or test.root else {}
 
 
 def script_bytes(test: Test) -> bytes:
@@ -128,8 +128,8 @@ def after_faults(test: Test, result: Result) -> list[Fault]:
 def wanted_cuts(test: Test) -> int:
     if test.settings.cuts is not None:
         return test.settings.cuts
-    value = wanted_lines(test).get("cuts", "0")
-    return int(value) if value.isdigit() else -1
+    number = report.number(wanted_lines(test).get("cuts", "0"))
+    return -1 if number is None else number
 
 
 def _report(test: Test, result: Result) -> list[Fault]:

@@ -5,6 +5,7 @@ import os
 import tomllib
 from dataclasses import dataclass, field, fields, replace
 
+from uxntools import files
 from uxntools.cli import Failure
 
 NAME = "uxn-test.toml"
@@ -67,6 +68,8 @@ def _fault(name: str, value: object) -> str | None:
         return f"there is no such setting; there are {', '.join(sorted(KEYS))}"
     if name in TEXTS and not (isinstance(value, str) and value):
         return "it has to be a text"
+    if name in TEXTS and not is_beneath(str(value)):
+        return "it has to be a path beneath this folder"
     if name in COUNTS and not (isinstance(value, int) and not isinstance(value, bool) and value >= COUNTS[name]):
         return f"it has to be a number from {COUNTS[name]} on"
     if name == "rom" and not isinstance(value, bool):
@@ -76,18 +79,27 @@ def _fault(name: str, value: object) -> str | None:
     return None
 
 
+def is_beneath(path: str) -> bool:
+    """Whether a path leads to what lies beneath the folder of the settings, by its names alone."""
+    return not path.startswith("/") and ".." not in path.split("/") and all(sign.isprintable() for sign in path)
+
+
 def _tables(data: object, kind: str, path: str) -> dict[str, dict[str, object]]:
     if not isinstance(data, dict):
         raise Failure(f"{path}: {kind}: write [{kind}.NAME]", 2)
+    for name in data:
+        if not is_beneath(name):
+            raise Failure(f"{path}: {kind} {name}: it has to be a path beneath this folder", 2)
     return {os.path.normpath(name): _checked(table, f"{path}: {kind} {name}") for name, table in data.items()}
 
 
 def read(path: str) -> Configuration:
     """The configuration that a file holds."""
     try:
-        with open(path, "rb") as file:
-            data = tomllib.load(file)
-    except (tomllib.TOMLDecodeError, UnicodeDecodeError) as error:
+        data = tomllib.loads(files.read(path, files.SETTINGS).decode())
+    except ValueError as error:
         raise Failure(f"{path}: {error}", 2) from None
+    except RecursionError:
+        raise Failure(f"{path}: it is nested too deeply", 2) from None
     folders, tests = _tables(data.pop("folder", {}), "folder", path), _tables(data.pop("test", {}), "test", path)
     return Configuration(_checked(data, path), folders, tests)

@@ -18,6 +18,8 @@ PARTS = frozenset((*STARTS, *WANTED, "root"))
 FOLDERS = ("root", "after")
 # What the folder of these tools has, wherever a copy of it lies: its own tests are none of the user's.
 OF_TOOLS = os.path.join("uxntools", "testing", "discovery.py")
+# How deep the folders lie that are looked into.
+MOST_DEPTH = 64
 
 
 @dataclass(frozen=True)
@@ -102,7 +104,7 @@ def _source_names(folder: str) -> list[str]:
 
 
 def _has_tests(folder: str) -> bool:
-    return os.path.isdir(folder) and next(_file_sets(folder, "tests", may_be_test=False), None) is not None
+    return os.path.isdir(folder) and not os.path.islink(folder) and next(_file_sets(folder, "tests", may_be_test=False), None) is not None
 
 
 def project_at(folder: str, shown: str) -> Project | None:
@@ -154,14 +156,20 @@ def _project_above(folder: str, shown: str) -> Project | None:
     return None
 
 
-def _projects_beneath(folder: str, shown: str) -> Iterator[Project]:
+def _refuse_depth(shown: str, depth: int) -> None:
+    if depth > MOST_DEPTH:
+        raise Failure(f"{shown}: it is over {MOST_DEPTH} folders deep", 2)
+
+
+def _projects_beneath(folder: str, shown: str, depth: int = 0) -> Iterator[Project]:
+    _refuse_depth(shown, depth)
     found = project_at(folder, shown)
     if found:
         yield found
     for entry in sorted(os.scandir(folder), key=lambda it: it.name):
         is_tests = found and entry.name in found.places
         if _is_looked_into(entry) and not is_tests:
-            yield from _projects_beneath(entry.path, os.path.join(shown, entry.name))
+            yield from _projects_beneath(entry.path, os.path.join(shown, entry.name), depth + 1)
 
 
 def _split(entry: os.DirEntry[str]) -> tuple[str, str] | None:
@@ -180,9 +188,12 @@ def _bare_parts(entries: Iterable[os.DirEntry[str]]) -> frozenset[str]:
     )
 
 
-def _file_sets(folder: str, place: str, may_be_test: bool = True) -> Iterator[tuple[str, frozenset[str], bool]]:
+def _file_sets(
+    folder: str, place: str, may_be_test: bool = True, depth: int = 0
+) -> Iterator[tuple[str, frozenset[str], bool]]:
     """The tests of a folder and of those beneath it: each with the path of its files, its parts, and whether it is a
     folder of its own, as the folder itself may be one."""
+    _refuse_depth(place, depth)
     with os.scandir(folder) as scan:
         entries = sorted(scan, key=lambda it: it.name)
     bare = _bare_parts(entries)
@@ -202,14 +213,21 @@ def _file_sets(folder: str, place: str, may_be_test: bool = True) -> Iterator[tu
         is_part = is_test and entry.name in FOLDERS
         is_project = os.path.exists(os.path.join(entry.path, configuration.NAME))
         if _is_looked_into(entry) and not is_part and not is_project:
-            yield from _file_sets(entry.path, prefix + entry.name)
+            yield from _file_sets(entry.path, prefix + entry.name, depth=depth + 1)
+
+
+def _is_folder_of(folder: str, place: str) -> bool:
+    """Whether a path leads to a folder beneath another one without following a link."""
+    parts = place.split("/")
+    paths = [os.path.join(folder, *parts[: count + 1]) for count in range(len(parts))]
+    return os.path.isdir(paths[-1]) and not any(map(os.path.islink, paths))
 
 
 def _sets_of_place(project: Project, place: str) -> list[tuple[str, frozenset[str], bool]]:
     """The tests of a place of a project. The place itself is one if `uxn-test.toml` names it and it has no others, so
     that a file `log` or `out` that lies about in a folder of tests makes no test of that folder."""
     folder = os.path.join(project.folder, place)
-    if not os.path.isdir(folder):
+    if not _is_folder_of(project.folder, place):
         raise Failure(f"{os.path.normpath(os.path.join(project.shown, place))}: it is no folder of tests", 2)
     beneath = list(_file_sets(folder, place, may_be_test=False))
     of_test = tuple(f"{place}/{part}/" for part in FOLDERS)

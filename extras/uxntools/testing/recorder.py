@@ -4,12 +4,11 @@ from __future__ import annotations
 import argparse
 import json
 import os
-import shutil
 import sys
 from collections.abc import Iterator
 from contextlib import contextmanager
 
-from uxntools import cli, program, script
+from uxntools import cli, files, program, script
 from uxntools.cli import Failure
 from uxntools.recording import Recorder, Session, Wrong
 from uxntools.testing import comparing, configuration, updating, warning
@@ -53,7 +52,7 @@ def check(given: argparse.Namespace) -> None:
         raise Failure(f"{given.program}: a line of machines is not recorded; write its script", 2)
     if os.path.isabs(given.to) or os.path.normpath(given.to).startswith("..") or not os.path.basename(given.to):
         raise Failure(f"{given.to}: the test has to lie in this folder or beneath it", 2)
-    if os.path.exists(given.to + ".script"):
+    if os.path.lexists(given.to + ".script"):
         raise Failure(f"{given.to}.script is there already: take it away, or choose another name")
     if given.root is not None and not os.path.isdir(given.root):
         raise Failure(f"{given.root}: there is no such folder")
@@ -143,19 +142,18 @@ def name_program(given: argparse.Namespace) -> None:
     lines += [f"[test.{json.dumps(stem)}]", f"program = {json.dumps(os.path.normpath(given.program))}"]
     if given.budget is not None:
         lines.append(f"budget = {given.budget}")
-    with open(path, "a", encoding="utf-8") as file:
-        file.write(("\n" if is_there else "") + "\n".join(lines) + "\n")
+    old = files.read(path, files.SETTINGS) if is_there else b""
+    files.write(path, old + (("\n" if is_there else "") + "\n".join(lines) + "\n").encode())
     say(f"{path} now names the program of {stem}")
 
 
 def write_test(given: argparse.Namespace, recorder: Recorder) -> int:
     """Writes the script and the files before the run, finds the test as `uxn-test` does, and records what is wanted
     of it."""
-    os.makedirs(os.path.dirname(given.to) or ".", exist_ok=True)
-    with open(given.to + ".script", "wb") as file:
-        file.write(recorder.text())
+    files.make_folder(os.path.dirname(given.to) or ".")
+    files.write(given.to + ".script", recorder.text())
     if given.root is not None:
-        shutil.copytree(given.root, given.to + ".root", symlinks=True)
+        files.copy_root(given.root, given.to + ".root")
     if not is_as_recorded(find_test(given.to), given):
         name_program(given)
     test = discover([given.to])[0]

@@ -2,22 +2,23 @@
 from __future__ import annotations
 
 import os
-import shutil
+import stat
 import subprocess
-import tempfile
 import threading
 from collections.abc import Iterator, Mapping
 from contextlib import contextmanager
 from dataclasses import dataclass, field
 
-from uxntools import program, report
-from uxntools.cli import Failure
+from uxntools import files, program, report
+from uxntools.cli import Failure, shown
 from uxntools.testing.discovery import Test
 
 # The folder of a project in which runs write, and results and failed tests are kept.
 KEPT = ".uxn-test"
 # Statuses of a program that a shell also gives for a call that could not be made.
 NOT_DONE = {126, 127}
+# How many signs of a refusal are shown.
+MOST_OF_LINE = 500
 # The processes that run now, so that an interrupt ends them all.
 RUNNING: set[subprocess.Popen[bytes]] = set()
 ENDING = threading.Event()
@@ -67,10 +68,10 @@ class Call:
         names."""
         if self.test.has("setup") or not self.test.script:
             return self.test.program
-        with open(os.path.join(self.test.folder, self.test.program), "rb") as file:
-            lines = [line for line in file.read().split(b"\n") if line.split()[:1] != [b"script"]]
-        with open(os.path.join(self.test.folder, self.path("setup")), "wb") as file:
-            file.write(b"\n".join([*lines, b"script " + os.fsencode(self.test.script), b""]))
+        data = files.read(os.path.join(self.test.folder, self.test.program), files.SETUP)
+        lines = [line for line in data.split(b"\n") if line.split()[:1] != [b"script"]]
+        made = b"\n".join([*lines, b"script " + os.fsencode(self.test.script), b""])
+        files.put(os.path.join(self.test.folder, self.path("setup")), made)
         return self.path("setup")
 
 
@@ -95,7 +96,7 @@ class Result:
     @property
     def line(self) -> str:
         """The last line on the error output: that of a refusal."""
-        return self.err.decode(errors="replace").rstrip("\n").rpartition("\n")[2]
+        return shown(self.err.decode(errors="replace").rstrip("\n").rpartition("\n")[2], MOST_OF_LINE)
 
     @property
     def report(self) -> dict[str, str]:
@@ -104,25 +105,13 @@ class Result:
 
     def count(self, name: str) -> int:
         """A number of the report, or 0."""
-        value = self.report.get(name, "0")
-        return int(value) if value.isdigit() else 0
+        return report.number(self.report.get(name, "0")) or 0
 
     @property
     def is_done(self) -> bool:
         """Whether the call came to its end: it was not refused, did not end early, and was no call that could not be
         made."""
         return 0 <= self.status < 128 and self.status not in NOT_DONE
-
-
-def files_beneath(folder: str) -> dict[str, bytes]:
-    """The files beneath a folder with their bytes, by their paths in it. A link counts as what it leads to."""
-    found = {}
-    for path, names, files in os.walk(folder):
-        names.sort()
-        for name in sorted(files):
-            full = os.path.join(path, name)
-            found[os.path.relpath(full, folder)] = _read(full) if os.path.exists(full) else b"a link that leads nowhere"
-    return found
 
 
 def usual_outputs(test: Test) -> frozenset[str]:
@@ -134,42 +123,40 @@ def usual_outputs(test: Test) -> frozenset[str]:
 def kept_folder(folder: str) -> str:
     """The folder of a project in which all of this is written; it tells git to leave it alone."""
     path = os.path.join(folder, KEPT)
-    if not os.path.isdir(path):
-        os.makedirs(path, exist_ok=True)
-        with open(os.path.join(path, ".gitignore"), "w", encoding="ascii") as file:
-            file.write("*\n")
+    try:
+        if stat.S_ISDIR(os.lstat(path).st_mode):
+            return path
+    except FileNotFoundError:
+        pass
+    files.make_folder(KEPT, folder)
+    files.write(os.path.join(KEPT, ".gitignore"), b"*\n", folder)
     return path
 
 
 @contextmanager
 def prepared(test: Test, outputs: frozenset[str] = frozenset(), scratch: str | None = None) -> Iterator[Call]:
     """A call of a test with a scratch folder of its own, in which a copy of the files beneath its root lies."""
-    beside = scratch or kept_folder(test.folder)
-    folder = tempfile.mkdtemp(prefix="run-", dir=beside)
-    try:
+    with files.scratch_folder("run-", scratch or kept_folder(test.folder)) as folder:
         call = Call(test, os.path.relpath(folder, test.folder), outputs)
         if test.has_root:
             _copy_root(test, os.path.join(folder, "root"))
         yield call
-    finally:
-        shutil.rmtree(folder, ignore_errors=True)
 
 
 def _copy_root(test: Test, target: str) -> None:
     """The files before the run; a test that only says what is wanted after it begins with an empty folder."""
     if test.root is None:
-        os.mkdir(target)
+        files.make_folder(target)
         return
     root = os.path.join(test.folder, test.root)
-    if not os.path.isdir(root):
+    if not os.path.lexists(root):
         raise Failure(f"{test.name}: {test.root}: there is no such folder for the root", 2)
-    shutil.copytree(root, target, symlinks=True)
+    files.copy_root(root, target, test.folder)
 
 
 def _read(path: str) -> bytes:
     try:
-        with open(path, "rb") as file:
-            return file.read()
+        return files.read(path, files.OUTPUT)
     except FileNotFoundError:
         return b""
 
@@ -187,7 +174,7 @@ def run(
     with prepared(test, usual_outputs(test) if outputs is None else outputs, scratch) as call:
         words = [uxn or program.path_of_uxn(), *call.words()]
         folder = os.path.join(test.folder, call.scratch)
-        with open(f"{folder}/out", "wb") as out, open(f"{folder}/err", "wb") as err:
+        with files.opened(f"{folder}/out") as out, files.opened(f"{folder}/err") as err:
             status = _wait(
                 subprocess.Popen(
                     words, cwd=test.folder, stdin=subprocess.DEVNULL, stdout=out, stderr=err, env=environment
@@ -197,7 +184,7 @@ def run(
             )
         wanted = ["out", "err", *sorted(call.outputs)] + (["log"] if test.kind == "debug" else [])
         parts = {part: _read(f"{folder}/{part}") for part in wanted}
-        return Result(status, parts, files_beneath(f"{folder}/root") if test.has_root and test.kind != "line" else None)
+        return Result(status, parts, files.read_all(f"{folder}/root") if test.has_root and test.kind != "line" else None)
 
 
 def end_all() -> None:

@@ -8,8 +8,8 @@ from concurrent.futures import Future, ThreadPoolExecutor
 from concurrent.futures import TimeoutError as NotYet
 from dataclasses import dataclass, field
 
-from uxntools import misses, program
-from uxntools.cli import Failure
+from uxntools import files, misses, program
+from uxntools.cli import Failure, line_of
 from uxntools.testing import comparing, running, showing
 from uxntools.testing.caching import Keys, Store
 from uxntools.testing.comparing import Fault
@@ -104,8 +104,11 @@ class Session:
         outputs = running.usual_outputs(test)
         if not self.keeps:
             return self._later(pool, test, None), b"", b""
-        keys = self.keys_of(test)
-        key, wanted = keys.of_run(test, outputs), keys.of_wanted(test)
+        try:
+            keys = self.keys_of(test)
+            key, wanted = keys.of_run(test, outputs), keys.of_wanted(test)
+        except OSError:
+            return self._later(pool, test, None), b"", b""
         if self.options.is_fresh:
             return self._later(pool, test, None), key, wanted
         store = self.stores[test.folder]
@@ -130,7 +133,7 @@ class Session:
         except Failure as failure:
             return self._failed(test, None, [Fault("test", failure.line)])
         except OSError as error:
-            return self._failed(test, None, [Fault("test", f"{error.filename}: {error.strerror}")])
+            return self._failed(test, None, [Fault("test", line_of(error))])
         if found:
             outcome = self._failed(test, result, found)
         else:
@@ -170,5 +173,4 @@ class Session:
 def _is_script(path: str) -> bool:
     """Whether the program is a script: what it starts may change without a change of its own, so its results are not
     kept."""
-    with open(os.path.realpath(path), "rb") as file:
-        return file.read(2) == b"#!"
+    return files.read_start(path, 2) == b"#!"

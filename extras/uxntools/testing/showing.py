@@ -5,10 +5,9 @@ from __future__ import annotations
 import difflib
 import os
 import re
-import shutil
 from dataclasses import dataclass, field
 
-from uxntools import pictures, samples
+from uxntools import files, pictures, samples
 from uxntools.pictures import Picture
 from uxntools.testing.comparing import Fault
 from uxntools.testing.discovery import Test
@@ -221,29 +220,30 @@ def show(fault: Fault) -> Shown:
 
 
 def folder_of(test: Test, kind: str) -> str:
-    """The folder in which what came of a test is kept: of one that failed, or of what was recorded."""
-    return os.path.join(test.folder, KEPT, kind, test.stem.replace("/", "."))
+    """The folder in which what came of a test is kept, from its project's: of one that failed, or of what was
+    recorded."""
+    return os.path.join(KEPT, kind, test.stem.replace("/", "."))
 
 
 def keep(test: Test, result: Result | None, shown: list[Shown], kind: str = "failed") -> str:
     """Keeps what came of a test, and the files that show it, in a folder of its own; the path is the answer."""
     folder = folder_of(test, kind)
     forget(test, kind)
-    os.makedirs(folder)
-    files: dict[str, bytes] = {}
+    files.make_folder(folder, test.folder)
+    kept: dict[str, bytes] = {}
     for it in shown:
         for name, data in it.files.items():
-            files[name] = files.get(name, b"") + data if name.endswith(".diff") else data
+            kept[name] = kept.get(name, b"") + data if name.endswith(".diff") else data
     if result:
-        files.update(result.parts)
-        files.update((f"after/{path}", data) for path, data in (result.after or {}).items())
-    for name, data in files.items():
+        kept.update(result.parts)
+        kept.update((f"after/{path}", data) for path, data in (result.after or {}).items())
+    for name, data in kept.items():
         path = os.path.join(folder, name)
-        os.makedirs(os.path.dirname(path), exist_ok=True)
-        with open(path, "wb") as file:
-            file.write(data)
-    return os.path.relpath(folder)
+        if "/" in name:
+            files.make_folder(os.path.dirname(path), test.folder)
+        files.write(path, data, test.folder)
+    return os.path.relpath(os.path.join(test.folder, folder))
 
 
 def forget(test: Test, kind: str = "failed") -> None:
-    shutil.rmtree(folder_of(test, kind), ignore_errors=True)
+    files.remove_folder(folder_of(test, kind), test.folder)

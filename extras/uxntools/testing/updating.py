@@ -2,9 +2,9 @@
 from __future__ import annotations
 
 import os
-import shutil
 from dataclasses import dataclass, field, replace
 
+from uxntools import files
 from uxntools.testing import comparing, showing
 from uxntools.testing.comparing import ALLOWED, Fault
 from uxntools.testing.discovery import Test
@@ -130,20 +130,17 @@ def _shown_after(fault: Fault) -> Shown:
 def write(test: Test, made: Recording) -> None:
     """Writes what is recorded in place of what was wanted before."""
     for part, data in made.parts.items():
-        path = test.full_path(part)
         if data is not None:
-            with open(path, "wb") as file:
-                file.write(data)
-        elif os.path.exists(path):
-            os.unlink(path)
+            files.write(test.path(part), data, test.folder)
+        else:
+            files.remove(test.path(part), test.folder)
     if made.after is not None:
-        folder = test.full_path("after")
-        shutil.rmtree(folder, ignore_errors=True)
-        os.mkdir(folder)
+        folder = test.path("after")
+        files.remove_folder(folder, test.folder)
+        files.make_folder(folder, test.folder)
         for path, data in made.after.items():
-            os.makedirs(os.path.dirname(os.path.join(folder, path)), exist_ok=True)
-            with open(os.path.join(folder, path), "wb") as file:
-                file.write(data)
+            files.make_folder(os.path.dirname(os.path.join(folder, path)), test.folder)
+            files.write(os.path.join(folder, path), data, test.folder)
 
 
 def allowed_kinds(text: str) -> frozenset[str]:

@@ -22,7 +22,10 @@ def pictures(tests: Sequence[Test]) -> list[str]:
 def _has_shots(test: Test) -> bool:
     if test.has("ppm") or not test.script or test.kind == "line":
         return False
-    data = script_bytes(test)
+    try:
+        data = script_bytes(test)
+    except OSError:
+        return False
     return b"shot" in data and any(words == [b"shot"] for _, words in script.lines(data))
 
 
