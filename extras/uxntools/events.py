@@ -19,7 +19,7 @@ def _input(words: list[bytes]) -> bytes:
     return b"".join(word[1:] if word.startswith(b'"') else bytes.fromhex(word.decode()) for word in words[1:])
 
 
-def _count(words: list[bytes]) -> int:
+def number_of(words: list[bytes]) -> int:
     """How many events a line gives."""
     if words[0] in NOT_EVENTS:
         return 0
@@ -32,14 +32,14 @@ def _count(words: list[bytes]) -> int:
 
 def count(data: bytes) -> int:
     """How many events an accepted script has."""
-    return sum(map(_count, _lines(data)))
+    return sum(map(number_of, _lines(data)))
 
 
 def prefix(data: bytes, events: int) -> bytes:
     """A script with so many of the first events of another one, which has as many."""
     out = []
     for words in _lines(data):
-        size = _count(words)
+        size = number_of(words)
         if size > events:
             if events:
                 out.append(_part(words, events))
