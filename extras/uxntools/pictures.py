@@ -4,7 +4,6 @@ from __future__ import annotations
 import re
 import struct
 import zlib
-from collections.abc import Iterator
 from dataclasses import dataclass
 
 from uxntools.cli import Failure
@@ -24,9 +23,26 @@ class Picture:
         return [self.pixels[at:at + 3 * self.width] for at in range(0, len(self.pixels), 3 * self.width)]
 
     def scaled(self, scale: int) -> Picture:
-        """The picture with each pixel as a square of so many by so many."""
-        wide = (b"".join(row[x:x + 3] * scale for x in range(0, len(row), 3)) for row in self.rows())
-        return Picture(self.width * scale, self.height * scale, b"".join(row * scale for row in wide))
+        """The picture with each pixel as a square of so many by so many. It goes channel by channel, since a film has
+        very many pixels."""
+        if scale == 1:
+            return self
+        wide = bytearray(scale * len(self.pixels))
+        for channel in range(3):
+            one = self.pixels[channel::3]
+            for copy in range(scale):
+                wide[channel + 3 * copy :: 3 * scale] = one
+        size = 3 * scale * self.width
+        rows = (bytes(wide[at : at + size]) * scale for at in range(0, len(wide), size))
+        return Picture(scale * self.width, scale * self.height, b"".join(rows))
+
+    def padded(self, width: int, height: int) -> Picture:
+        """The picture at the upper left of a larger one that is black."""
+        if (self.width, self.height) == (width, height):
+            return self
+        right = bytes(3 * (width - self.width))
+        rows = b"".join(row + right for row in self.rows())
+        return Picture(width, height, rows + bytes(3 * width * (height - self.height)))
 
 
 def whole_pictures(data: bytes) -> tuple[list[Picture], int]:
@@ -50,34 +66,20 @@ def read(data: bytes, name: str = "the file") -> list[Picture]:
     return found
 
 
-def _chunk(name: bytes, data: bytes) -> bytes:
+def chunk(name: bytes, data: bytes) -> bytes:
+    """A part of a PNG file."""
     return struct.pack(">I", len(data)) + name + data + struct.pack(">I", zlib.crc32(name + data))
 
 
-def _head(width: int, height: int) -> bytes:
-    return b"\x89PNG\r\n\x1a\n" + _chunk(b"IHDR", struct.pack(">IIBBBBB", width, height, 8, 2, 0, 0, 0))
+def head(width: int, height: int) -> bytes:
+    """The beginning of a PNG file."""
+    return b"\x89PNG\r\n\x1a\n" + chunk(b"IHDR", struct.pack(">IIBBBBB", width, height, 8, 2, 0, 0, 0))
 
 
-def _packed(rows: list[bytes]) -> bytes:
-    return zlib.compress(b"".join(b"\0" + row for row in rows), 9)
+def packed(rows: list[bytes]) -> bytes:
+    """Rows of pixels as a PNG file has them."""
+    return zlib.compress(b"".join(b"\0" + row for row in rows))
 
 
 def png(picture: Picture) -> bytes:
-    return _head(picture.width, picture.height) + _chunk(b"IDAT", _packed(picture.rows())) + _chunk(b"IEND", b"")
-
-
-def _frames(films: list[Picture], width: int, height: int, rate: int) -> Iterator[bytes]:
-    number = 0
-    for film in films:
-        rows = [row + bytes(3 * (width - film.width)) for row in film.rows()] + [bytes(3 * width)] * (height - film.height)
-        yield _chunk(b"fcTL", struct.pack(">IIIIIHHBB", number, width, height, 0, 0, 1, rate, 0, 0))
-        data = _packed(rows)
-        yield _chunk(b"fdAT", struct.pack(">I", number + 1) + data) if number else _chunk(b"IDAT", data)
-        number += 2 if number else 1
-
-
-def animated_png(films: list[Picture], rate: int) -> bytes:
-    """All pictures as one PNG, `rate` a second; one that is smaller than the largest lies at its upper left, over black."""
-    width, height = max(film.width for film in films), max(film.height for film in films)
-    head = _head(width, height) + _chunk(b"acTL", struct.pack(">II", len(films), 0))
-    return head + b"".join(_frames(films, width, height, rate)) + _chunk(b"IEND", b"")
+    return head(picture.width, picture.height) + chunk(b"IDAT", packed(picture.rows())) + chunk(b"IEND", b"")

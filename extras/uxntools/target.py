@@ -246,6 +246,11 @@ class Workspace:
             done = program.call_for_files(*words, folder=folder, calls=self._calls)
             return done, {name: _data(os.path.join(folder, OWN + name)) for name in outputs}
 
+    def prepared(self, folder: str, script: bytes) -> list[str]:
+        """The words of a call of `play` over a script, which is put into the folder of the call."""
+        files.put(os.path.join(folder, f"{OWN}script"), script)
+        return ["play", self.target.source, *self._options(script)]
+
     def output(self) -> Done:
         """What the whole run puts out."""
         with self.folder() as folder:
