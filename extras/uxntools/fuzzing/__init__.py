@@ -1,0 +1,1 @@
+"""Searching for scripts that break a program."""
