@@ -478,7 +478,7 @@ function statusOfNode(stats) {
 }
 
 const NOT_STARTED = 200;
-const ENDED_BY_TRAP = 134;
+const ENDED_BY_TRAP = 201;
 
 /** Runs the program over the computer's files. @param {string[]} args @returns {Promise<number>} the exit status */
 async function main(args) {
