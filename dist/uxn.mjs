@@ -18,11 +18,11 @@
  * @property {() => void} close
  */
 /**
- * A tree of files. A method that fails throws a SystemError.
+ * A tree of files. A path is bytes, since a name need not be a text. A method that fails throws a SystemError.
  * @typedef {object} Tree
- * @property {(path: string, flags: number, mode: number) => Opened} open  `flags` has bits of OPEN.
- * @property {(path: string, follows: boolean) => Status} status
- * @property {(path: string) => void} unlink
+ * @property {(path: Uint8Array, flags: number, mode: number) => Opened} open  `flags` has bits of OPEN.
+ * @property {(path: Uint8Array, follows: boolean) => Status} status
+ * @property {(path: Uint8Array) => void} unlink
  */
 /** @typedef {{read: (into: Uint8Array) => number}} Source */
 /** @typedef {{write: (from: Uint8Array) => number}} Sink */
@@ -110,6 +110,7 @@ function putStatus(status, to) {
 
 const STATUS_BYTES = 256n;
 const NO_FOLLOW = 0x100;
+const SLASH = 0x2f;
 
 /** What is open in one run, by numbers, and the calls of the module over it. */
 class Host {
@@ -117,10 +118,10 @@ class Host {
   constructor(call) {
     this.tree = call.tree;
     this.words = ['uxn', ...call.args].map((word) => new TextEncoder().encode(word));
-    /** @type {Map<number, {opened: Opened, path: string, listing?: {left: Entry[], place: number}}>} */
+    /** @type {Map<number, {opened: Opened, path: Uint8Array, listing?: {left: Entry[], place: number}}>} */
     this.files = new Map();
     [call.stdin ?? { read: () => 0 }, call.stdout, call.stderr].forEach((ends, number) => {
-      this.files.set(number, { opened: streamOf(ends), path: '' });
+      this.files.set(number, { opened: streamOf(ends), path: new Uint8Array(0) });
     });
     /** @type {WebAssembly.Memory} */
     this.memory = null;
@@ -131,10 +132,10 @@ class Host {
     return new Uint8Array(this.memory.buffer, Number(at), Number(size));
   }
 
-  /** The text at an address, up to a zero byte. @param {bigint} at */
-  text(at) {
+  /** The path at an address, up to a zero byte. @param {bigint} at */
+  path(at) {
     const all = new Uint8Array(this.memory.buffer, Number(at));
-    return new TextDecoder().decode(all.slice(0, all.indexOf(0)));
+    return all.slice(0, all.indexOf(0));
   }
 
   /** @param {number} number */
@@ -142,14 +143,14 @@ class Host {
     return this.files.get(number) ?? fail('EBADF');
   }
 
-  /** The path that a call means: beneath the folder that is open as `number`, or as it is. @param {number} number @param {string} path */
+  /** The path that a call means: beneath the folder that is open as `number`, or as it is. @param {number} number @param {Uint8Array} path */
   pathFrom(number, path) {
-    return number < 0 || path.startsWith('/') ? path : `${this.file(number).path}/${path}`;
+    return number < 0 || path[0] === SLASH ? path : new Uint8Array([...this.file(number).path, SLASH, ...path]);
   }
 
   /** @param {number} folder @param {bigint} at @param {number} flags @param {number} mode */
   open(folder, at, flags, mode) {
-    const path = this.pathFrom(folder, this.text(at));
+    const path = this.pathFrom(folder, this.path(at));
     const opened = this.tree.open(path, flags, mode);
     let number = 3;
     while (this.files.has(number)) number += 1;
@@ -166,8 +167,8 @@ class Host {
 
   /** @param {number} folder @param {bigint} at @param {number} flags @param {bigint} to */
   status(folder, at, flags, to) {
-    const path = this.text(at);
-    const status = path || folder < 0
+    const path = this.path(at);
+    const status = path.length || folder < 0
       ? this.tree.status(this.pathFrom(folder, path), !(flags & NO_FOLLOW))
       : this.file(folder).opened.status();
     putStatus(status, this.bytes(to, STATUS_BYTES));
@@ -208,7 +209,7 @@ class Host {
       seek: answered((number, offset, whence) => this.file(number).opened.seek(Number(offset), whence)),
       status: answered((folder, at, flags, mask, to) => this.status(folder, at, flags, to)),
       list: answered((number, to, size) => this.list(number, to, size)),
-      unlink: answered((at) => (this.tree.unlink(this.text(at)), 0)),
+      unlink: answered((at) => (this.tree.unlink(this.path(at)), 0)),
       argument_count: answered(() => this.words.length),
       argument: answered((at, to, size) => this.argument(at, to, size)),
     };
@@ -227,83 +228,92 @@ export function run(module, call) {
   return /** @type {() => number} */ (exports.run)() & 255;
 }
 
-/** A file, or a folder with what it holds by name. */
-/** @typedef {{entries: Map<string, Node>}} MemoryFolder */
+/** @typedef {{entries: Map<string, Node>}} MemoryFolder  What a folder holds, by names as `keyOf` has them. */
 /** @typedef {{bytes: Uint8Array, size: number}} MemoryFile  The file's bytes are the first `size` of `bytes`. */
 /** @typedef {MemoryFolder | MemoryFile} Node */
 
 const MOST_NAME = 255;
 const MOST_PATH = 4095;
 
-/** A tree in memory, whose root is the current folder and `/`. */
+/** A path as a string with a character for each byte. @param {string | Uint8Array} path */
+function keyOf(path) {
+  let key = '';
+  for (const byte of typeof path === 'string' ? new TextEncoder().encode(path) : path) key += String.fromCharCode(byte);
+  return key;
+}
+
+/** The bytes of what `keyOf` returned. @param {string} key */
+function bytesOf(key) {
+  return Uint8Array.from(key, (sign) => sign.charCodeAt(0));
+}
+
+/** A tree in memory, whose root is the current folder and `/`. A path is a text or bytes. */
 export class MemoryTree {
   constructor() {
     /** @type {MemoryFolder} */
     this.root = { entries: new Map() };
   }
 
-  /** Puts a file there, with the folders that it lies in. @param {string} path @param {Uint8Array} bytes */
+  /** Puts a file there, with the folders that it lies in. @param {string | Uint8Array} path @param {Uint8Array} bytes */
   put(path, bytes) {
     const { folder, name } = this.#above(path, true);
     folder.entries.set(name, { bytes, size: bytes.length });
   }
 
-  /** Puts an empty folder there, if none is. @param {string} path */
+  /** Puts an empty folder there, if none is. @param {string | Uint8Array} path */
   putFolder(path) {
     const { folder, name } = this.#above(path, true);
     if (name && !folder.entries.has(name)) folder.entries.set(name, { entries: new Map() });
   }
 
-  /** The bytes of a file; undefined where there is none. @param {string} path */
+  /** The bytes of a file; undefined where there is none. @param {string | Uint8Array} path */
   get(path) {
     const { folder, name } = this.#above(path, false);
     const node = folder.entries.get(name);
     return node && 'bytes' in node ? node.bytes.subarray(0, node.size) : undefined;
   }
 
-  /** Each path with the bytes of the file, or null for a folder. @returns {Generator<[string, Uint8Array | null]>} */
+  /** Each path, as bytes, with the bytes of the file, or null for a folder. @returns {Generator<[Uint8Array, Uint8Array | null]>} */
   * all(folder = this.root, above = '') {
     for (const [name, node] of folder.entries) {
       if ('entries' in node) {
-        yield [above + name, null];
+        yield [bytesOf(above + name), null];
         yield* this.all(node, `${above}${name}/`);
       } else {
-        yield [above + name, node.bytes.subarray(0, node.size)];
+        yield [bytesOf(above + name), node.bytes.subarray(0, node.size)];
       }
     }
   }
 
-  /** The folder that a path lies in, and its last name: '' for the root and for a path that ends in `/`, `.` or `..`. @param {string} path @param {boolean} makes */
+  /** The folder that a path lies in, and its last name: '' for the root and for a path that ends in `/`, `.` or `..`. @param {string | Uint8Array} path @param {boolean} makes */
   #above(path, makes) {
-    if (!path) fail('ENOENT');
-    const encoder = new TextEncoder();
-    if (encoder.encode(path).length > MOST_PATH) fail('ENAMETOOLONG');
-    const names = path.split('/');
-    const last = names.pop();
+    const names = keyOf(path).split('/');
+    if (!path.length) fail('ENOENT');
+    if (names.join('/').length > MOST_PATH || names.some((name) => name.length > MOST_NAME)) fail('ENAMETOOLONG');
+    const last = names[names.length - 1];
+    const isStep = last === '.' || last === '..';
     const way = [this.root];
-    for (const name of last === '.' || last === '..' ? [...names, last] : names) {
+    for (const name of isStep ? names : names.slice(0, -1)) {
       const here = way[way.length - 1];
       if (name === '' || name === '.') continue;
       if (name === '..') {
         if (way.length > 1) way.pop();
         continue;
       }
-      if (encoder.encode(name).length > MOST_NAME) fail('ENAMETOOLONG');
       if (makes && !here.entries.has(name)) here.entries.set(name, { entries: new Map() });
       const node = here.entries.get(name) ?? fail('ENOENT');
       way.push('entries' in node ? node : fail('ENOTDIR'));
     }
-    if (encoder.encode(last).length > MOST_NAME) fail('ENAMETOOLONG');
-    return { folder: way[way.length - 1], name: last === '.' || last === '..' ? '' : last };
+    return { folder: way[way.length - 1], name: isStep ? '' : last };
   }
 
-  /** @param {string} path */
+  /** @param {Uint8Array} path */
   #node(path) {
     const { folder, name } = this.#above(path, false);
     return name ? folder.entries.get(name) : folder;
   }
 
-  /** @param {string} path @param {number} flags @returns {Opened} */
+  /** @param {Uint8Array} path @param {number} flags @returns {Opened} */
   open(path, flags) {
     let node = this.#node(path);
     if (!node) {
@@ -320,12 +330,12 @@ export class MemoryTree {
     return openedFile(node, flags);
   }
 
-  /** @param {string} path */
+  /** @param {Uint8Array} path */
   status(path) {
     return statusOf(this.#node(path) ?? fail('ENOENT'));
   }
 
-  /** @param {string} path */
+  /** @param {Uint8Array} path */
   unlink(path) {
     const node = this.#node(path) ?? fail('ENOENT');
     if ('entries' in node) fail('EISDIR');
@@ -347,7 +357,7 @@ function openedFolder(node, flags) {
     write: () => fail('EBADF'),
     seek: () => 0,
     status: () => statusOf(node),
-    list: () => [...node.entries].map(([name, each]) => ({ name: new TextEncoder().encode(name), type: 'entries' in each ? FOLDER : FILE })),
+    list: () => [...node.entries].map(([name, each]) => ({ name: bytesOf(name), type: 'entries' in each ? FOLDER : FILE })),
     close() {},
   };
 }
@@ -406,16 +416,16 @@ export class NodeTree {
     }
   }
 
-  /** @param {string} path @param {number} flags @param {number} mode @returns {Opened} */
+  /** @param {Uint8Array} path @param {number} flags @param {number} mode @returns {Opened} */
   open(path, flags, mode) {
     const { constants } = this.fs;
     let here = 0;
     for (const [name, bit] of Object.entries(OPEN)) if (flags & bit) here |= constants[`O_${name}`] ?? 0;
-    const number = this.#answered(() => this.fs.openSync(path, here, mode));
-    return this.#opened(number, path, flags);
+    const number = this.#answered(() => this.fs.openSync(Buffer.from(path), here, mode));
+    return this.#opened(number, Buffer.from(path), flags);
   }
 
-  /** Node has no call that moves a file's place, so the place is held here. @param {number} number @param {string} path @param {number} flags @returns {Opened} */
+  /** Node has no call that moves a file's place, so the place is held here. @param {number} number @param {Buffer} path @param {number} flags @returns {Opened} */
   #opened(number, path, flags) {
     const { fs } = this;
     const first = this.#answered(() => fs.fstatSync(number));
@@ -443,7 +453,7 @@ export class NodeTree {
     };
   }
 
-  /** @param {string} path @returns {Entry[]} */
+  /** @param {Buffer} path @returns {Entry[]} */
   #list(path) {
     const found = this.#answered(() => this.fs.readdirSync(path, { encoding: 'buffer', withFileTypes: true }));
     return found.map((each) => ({
@@ -452,14 +462,15 @@ export class NodeTree {
     }));
   }
 
-  /** @param {string} path @param {boolean} follows */
+  /** @param {Uint8Array} path @param {boolean} follows */
   status(path, follows) {
-    return statusOfNode(this.#answered(() => (follows ? this.fs.statSync(path) : this.fs.lstatSync(path))));
+    const bytes = Buffer.from(path);
+    return statusOfNode(this.#answered(() => (follows ? this.fs.statSync(bytes) : this.fs.lstatSync(bytes))));
   }
 
-  /** @param {string} path */
+  /** @param {Uint8Array} path */
   unlink(path) {
-    this.#answered(() => this.fs.unlinkSync(path));
+    this.#answered(() => this.fs.unlinkSync(Buffer.from(path)));
   }
 
   /** One of the streams that the process was given. @param {number} number @returns {Source & Sink} */

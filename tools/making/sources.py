@@ -38,12 +38,23 @@ def checksum(top: Path) -> str:
     return sum_of(sum_lines(top, all_files(top)))
 
 
+def folders(top: Path) -> list[str]:
+    """The folders that sources lie in, which change as one comes or goes."""
+    return [folder for above, names, _ in os.walk(top / "crates") for folder in hidden_out(above, names) if above != str(top / "crates")]
+
+
+def hidden_out(above: str, names: list[str]) -> list[str]:
+    """The folders in a folder, without those named out, which are not walked either."""
+    names[:] = [name for name in names if name != "out"]
+    return [os.path.join(above, name) for name in names]
+
+
 def is_newer_than_all(top: Path, program: Path) -> bool:
-    """Whether no source has changed since the program was made."""
+    """Whether no source has changed since the program was made. tools/choose has the same in shell."""
     if not program.is_file():
         return False
     made = program.stat().st_mtime_ns
-    return all(max(state.st_mtime_ns, state.st_ctime_ns) <= made for state in (os.stat(top / name) for name in all_files(top)))
+    return all(os.stat(top / name).st_ctime_ns <= made for name in [*all_files(top), *folders(top)])
 
 
 @dataclass(frozen=True)
