@@ -76,7 +76,11 @@ function streamOf(ends) {
   };
 }
 
-/** Writes what can still be read of a folder, as Linux's `getdents64` does; returns how many bytes. @param {{left: Entry[], place: number}} folder @param {Uint8Array} to */
+/**
+ * Writes what can still be read of a folder, as Linux's `getdents64` does; returns how many bytes.
+ * @param {{left: Entry[], place: number}} folder
+ * @param {Uint8Array} to
+ */
 function putEntries(folder, to) {
   const view = new DataView(to.buffer, to.byteOffset, to.byteLength);
   let at = 0;
@@ -143,7 +147,11 @@ class Host {
     return this.files.get(number) ?? fail('EBADF');
   }
 
-  /** The path that a call means: beneath the folder that is open as `number`, or as it is. @param {number} number @param {Uint8Array} path */
+  /**
+   * The path that a call means: beneath the folder that is open as `number`, or as it is.
+   * @param {number} number
+   * @param {Uint8Array} path
+   */
   pathFrom(number, path) {
     return number < 0 || path[0] === SLASH ? path : new Uint8Array([...this.file(number).path, SLASH, ...path]);
   }
@@ -285,7 +293,11 @@ export class MemoryTree {
     }
   }
 
-  /** The folder that a path lies in, and its last name: '' for the root and for a path that ends in `/`, `.` or `..`. @param {string | Uint8Array} path @param {boolean} makes */
+  /**
+   * The folder that a path lies in, and its last name: '' for the root and for a path that ends in `/`, `.` or `..`.
+   * @param {string | Uint8Array} path
+   * @param {boolean} makes  whether folders that are not there are made
+   */
   #above(path, makes) {
     const names = keyOf(path).split('/');
     if (!path.length) fail('ENOENT');
@@ -425,7 +437,13 @@ export class NodeTree {
     return this.#opened(number, Buffer.from(path), flags);
   }
 
-  /** Node has no call that moves a file's place, so the place is held here. @param {number} number @param {Buffer} path @param {number} flags @returns {Opened} */
+  /**
+   * Node has no call that moves a file's place, so the place is held here.
+   * @param {number} number
+   * @param {Buffer} path
+   * @param {number} flags
+   * @returns {Opened}
+   */
   #opened(number, path, flags) {
     const { fs } = this;
     const first = this.#answered(() => fs.fstatSync(number));

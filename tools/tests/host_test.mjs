@@ -47,7 +47,7 @@ function list(tree, path) {
   return found.sort();
 }
 
-/** The calls, each with what it has to return. The tree begins with the folder `d`, with `x` and a name that is no text, and the file `f`. */
+/** The calls, each with what it has to return. The tree has the file `f` and the folder `d`, with `x` and a name that is no text. */
 const CALLS = [
   ['a file', (tree) => read(tree, 'f'), 'hello, world'],
   ['no file', (tree) => read(tree, 'g'), 'ENOENT'],

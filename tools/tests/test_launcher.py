@@ -8,7 +8,8 @@ import time
 import unittest
 from pathlib import Path
 
-from support import PROGRAM, TOP, Checkout, write
+from making import distribution
+from support import TOP, Checkout, write
 
 HELLO = ("play", "hello.tal")
 CHOSEN = Path("crates/uxn_program/out/chosen")
@@ -83,9 +84,8 @@ class Runs(Launcher):
         self.addCleanup(subprocess.run, ["chmod", "-R", "u+w", str(self.top)], check=True)
         words = ["setpriv", "--reuid=65534", "--regid=65534", "--clear-groups"] if os.geteuid() == 0 else []
         for _ in range(2):
-            done = subprocess.run(
-                [*words, str(self.top / "uxn"), *HELLO], cwd=self.beside, env=self.environment(), capture_output=True, text=True, check=False
-            )
+            command = [*words, str(self.top / "uxn"), *HELLO]
+            done = subprocess.run(command, cwd=self.beside, env=self.environment(), capture_output=True, text=True, check=False)
             self.assertEqual((done.returncode, done.stdout, done.stderr), (0, "h", ""))
         self.assertEqual(sorted(map(str, self.top.rglob("*"))), before)
         kept = self.home / ".cache" / "uxn" / str(self.top.resolve()).lstrip("/") / "chosen"
@@ -248,8 +248,6 @@ class OtherMachines(Launcher):
     def test_aarch64_has_its_own_file(self) -> None:
         write(self.top / "dist/uxn-linux-aarch64", "#!/bin/sh\n[ $# -gt 0 ] || exit 128\necho \"aarch64: $*\"\n", 0o755)
         manifest = self.top / "dist/manifest.json"
-        from making import distribution
-
         write(manifest, distribution.manifest_text(self.top, self.top / "dist", "x"))
         path = self.stand_in("uname", 'case $1 in -s) echo Linux ;; *) echo aarch64 ;; esac')
         self.assertEqual(self.run_uxn(*HELLO, PATH=path).stdout, "aarch64: play hello.tal\n")
