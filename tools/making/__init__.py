@@ -1,0 +1,1 @@
+"""Makes the program from its sources, and dist/ from the program."""
