@@ -52,7 +52,8 @@ class Install(ToolTest):
         self.install()
         path = os.pathsep.join([self.path("a prefix/bin"), "/usr/bin", "/bin"])
         self.write("a.tal", "|0100 BRK")
-        self.write("a prefix/bin/uxn", "#!/bin/sh\necho >ran\n")
+        self.write("a prefix/bin/uxn", f"#!/bin/sh\n: >'{self.path('ran')}'\n")
+        del self.environment["UXN"]
         self.assertEqual(self.succeed("uxn-check", "a.tal", PATH=path), "")
         self.assertFalse(os.path.exists(self.path("ran")))
         os.remove(self.path("a prefix/lib/uxn/uxn"))
