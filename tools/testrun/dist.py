@@ -5,14 +5,27 @@ import hashlib
 import json
 import os
 import platform
+from pathlib import Path
+
+from making import sources
 
 MANIFEST = "dist/manifest.json"
-# The names that machines have, by the names that dist/ uses.
+# The names of processors, by what systems call them.
 PROCESSORS = {"x86_64": "x86_64", "amd64": "x86_64", "aarch64": "aarch64", "arm64": "aarch64"}
 
 
 def has_manifest(top: str) -> bool:
     return os.path.exists(os.path.join(top, MANIFEST))
+
+
+def manifest(top: str) -> tuple[str, dict[str, str]]:
+    """The checksum of the sources, and the SHA-256 sums of the files by their names; nothing where it is not in its form."""
+    try:
+        with open(os.path.join(top, MANIFEST), encoding="utf-8") as file:
+            found = json.load(file)
+        return str(found["sources"]), {str(name): str(value) for name, value in found["files"].items()}
+    except (OSError, ValueError, LookupError, TypeError, AttributeError):
+        return "", {}
 
 
 def sum_of(path: str) -> str:
@@ -24,23 +37,22 @@ def sum_of(path: str) -> str:
         return ""
 
 
-def sums(top: str) -> dict[str, str]:
-    """The sums that the manifest has, by the names of the files."""
-    try:
-        with open(os.path.join(top, MANIFEST), encoding="utf-8") as file:
-            files = json.load(file)["files"]
-        return {str(name): str(value) for name, value in files.items()}
-    except (OSError, ValueError, LookupError, TypeError, AttributeError):
-        return {}
-
-
-def check(top: str) -> tuple[int, list[str]]:
-    """How many files of dist/ are what the manifest says, and what is wrong with the others."""
-    known = sums(top)
-    if not known:
+def check(top: str, with_sources: bool) -> tuple[int, list[str]]:
+    """How much of dist/ is what the manifest says, and what is wrong: of the files and, if they matter, of the sources."""
+    source, files = manifest(top)
+    if not files:
         return 0, [f"{MANIFEST}: it names no file"]
-    wrong = [name for name, value in sorted(known.items()) if sum_of(os.path.join(top, "dist", name)) != value]
-    return len(known) - len(wrong), [f"dist/{name}: it is not the file that {MANIFEST} names" for name in wrong]
+    faults = [
+        f"dist/{name}: it is not the file that {MANIFEST} names: `git checkout dist` or `tools/dist` mends it"
+        for name, value in sorted(files.items())
+        if sum_of(os.path.join(top, "dist", name)) != value
+    ]
+    passed = len(files) - len(faults)
+    if with_sources and source != sources.checksum(Path(top)):
+        faults.append("dist/: it is made of other sources: build these by tools/build, and name the program by --program")
+    elif with_sources:
+        passed += 1
+    return passed, faults
 
 
 def name_of_machine() -> str:

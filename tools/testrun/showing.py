@@ -5,6 +5,7 @@ import shutil
 import sys
 import time
 
+from testrun.parts import PARTS
 from testrun.running import Result, Runner
 
 
@@ -43,17 +44,23 @@ class Screen:
         self.progress()
 
 
+def row(name: str, results: list[Result]) -> list[str]:
+    """The counts of a part, its time from the first start to the last end, and that of all processors."""
+    counts = [sum(it.passed for it in results), sum(it.failed for it in results), sum(it.count_of_skipped for it in results)]
+    began, ended = [it.began for it in results if it.began], [it.ended for it in results if it.began]
+    seconds = max(ended) - min(began) if began else 0
+    return [name, *map(str, counts), f"{seconds:.1f}", f"{sum(it.processor for it in results):.1f}"]
+
+
 def table(results: list[Result]) -> str:
-    """The counts and times of each part: from its first start to its last end, and of all processors."""
+    """The counts and times of each part."""
     rows = [["part", "passed", "failed", "skipped", "seconds", "of processors"]]
-    for name in dict.fromkeys(result.job.part.name for result in results):
-        own = [result for result in results if result.job.part.name == name]
-        counts = [sum(it.passed for it in own), sum(it.failed for it in own), sum(it.count_of_skipped for it in own)]
-        seconds = max(it.ended for it in own) - min(it.began for it in own)
-        rows.append([name, *map(str, counts), f"{seconds:.1f}", f"{sum(it.processor for it in own):.1f}"])
+    for part in PARTS:
+        if own := [result for result in results if result.job.part.name == part.name]:
+            rows.append(row(part.name, own))
     widths = [max(map(len, column)) for column in zip(*rows)]
-    return "\n".join("  ".join([row[0].ljust(widths[0]), *(cell.rjust(width) for cell, width in zip(row[1:], widths[1:]))])
-                     for row in rows)
+    lines = [[row[0].ljust(widths[0]), *(cell.rjust(width) for cell, width in zip(row[1:], widths[1:]))] for row in rows]
+    return "\n".join("  ".join(line) for line in lines)
 
 
 def last_line(passed: int, failed: int, skipped: int) -> str:
