@@ -43,6 +43,9 @@ PARTS = (
     Part("lines", (".ci/lines",), is_in_memory=True),
 )
 
+# What ./test checks by itself before all parts.
+DIST = Part("dist", ())
+
 
 def named(name: str) -> Part | None:
     return next((part for part in PARTS if part.name == name), None)

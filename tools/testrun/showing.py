@@ -5,7 +5,7 @@ import shutil
 import sys
 import time
 
-from testrun.parts import PARTS
+from testrun.parts import DIST, PARTS
 from testrun.running import Result, Runner
 
 
@@ -55,7 +55,7 @@ def row(name: str, results: list[Result]) -> list[str]:
 def table(results: list[Result]) -> str:
     """The counts and times of each part."""
     rows = [["part", "passed", "failed", "skipped", "seconds", "of processors"]]
-    for part in PARTS:
+    for part in (DIST, *PARTS):
         if own := [result for result in results if result.job.part.name == part.name]:
             rows.append(row(part.name, own))
     widths = [max(map(len, column)) for column in zip(*rows)]
