@@ -10,6 +10,9 @@ import phases
 from stored import Case, Tree, above
 
 LONGEST = 4194304
+LONGEST_WORD = 255
+# What parts words, as blanks.
+BLANKS = b" " * 33 + bytes(range(33, 256))
 DEEPEST = 15
 MOST_FILES = 256
 FLAGS = (b"--rom",)
@@ -97,26 +100,54 @@ def is_path(text: bytes) -> bool:
     return len(text) <= 255 and len(names) <= 16 and not {b"", b".", b".."} & set(names) and not re.search(rb"[\0-\x1f\x7f\\]", text)
 
 
-@functools.lru_cache(maxsize=8)
+def is_include(word: bytes) -> bool:
+    return word.startswith(b"~") and len(word) > 1
+
+
 def words_of(text: bytes) -> list[bytes]:
     """The words of a file; stops if one of them is faulty, or the file too long."""
     if len(text) > LONGEST:
         raise Stop
+    if b"(" not in text and b")" not in text:
+        words = text.translate(BLANKS).split()
+        if any(len(word) > LONGEST_WORD for word in words):
+            raise Stop
+        return words
     try:
         return [word.text for word in phases.words_of(text)]
     except phases.Fault:
         raise Stop from None
 
 
-def is_include(word: bytes) -> bool:
-    return word.startswith(b"~") and len(word) > 1
+@dataclass
+class Piece:
+    """Words of a file between two includes; or the path of an include."""
+
+    words: list[bytes] = field(default_factory=list)
+    length: int = 0
+    path: bytes | None = None
+
+
+@functools.lru_cache(maxsize=8)
+def pieces_of(text: bytes) -> list[Piece]:
+    """The words of a file, parted at its includes."""
+    words, pieces, start = words_of(text), list[Piece](), 0
+    places = [at for at, word in enumerate(words) if is_include(word)] if b"~" in text else []
+    for at in [*places, len(words)]:
+        part = words[start:at]
+        if part:
+            pieces.append(Piece(part, sum(map(len, part)) + len(part)))
+        if at < len(words):
+            pieces.append(Piece(path=words[at][1:]))
+        start = at + 1
+    return pieces
 
 
 class Walk:
-    """The files that a source includes, in order, and the words of them all, up to the first fault."""
+    """The files that a source includes, in order, and the words of them all, up to the piece with the first fault."""
 
     def __init__(self, tree: Tree, source: bytes):
-        self.tree, self.files, self.words, self.length = tree, [source], [], 0
+        self.tree, self.files, self.parts, self.length = tree, [source], list[list[bytes]](), 0
         self.folder = source.rpartition(b"/")[0]
         self.is_whole = True
         try:
@@ -124,14 +155,17 @@ class Walk:
         except Stop:
             self.is_whole = False
 
+    @property
+    def words(self) -> list[bytes]:
+        return [word for part in self.parts for word in part]
+
     def visit(self, text: bytes, depth: int) -> None:
-        words = words_of(text)
-        for word in words:
-            if is_include(word):
-                self.include(word[1:], depth + 1)
+        for piece in pieces_of(text):
+            if piece.path is not None:
+                self.include(piece.path, depth + 1)
                 continue
-            self.words.append(word)
-            self.length += len(word) + 1
+            self.parts.append(piece.words)
+            self.length += piece.length
             if self.length > LONGEST and len(self.files) > 1:
                 raise Stop
 

@@ -2,6 +2,7 @@
 from __future__ import annotations
 
 import difflib
+import filecmp
 import os
 import re
 import shlex
@@ -115,8 +116,15 @@ def script_of(steps: list[Step]) -> str:
     return "\n".join(parts) + "\n"
 
 
-def make_clone(folder: str, top: str) -> str:
-    """A folder that looks like a clone of the repository."""
+def is_of_dist(top: str, program: str) -> bool:
+    """Whether a program is one of those of dist/, byte for byte."""
+    folder = os.path.join(top, "dist")
+    names = os.listdir(folder) if os.path.isdir(folder) else []
+    return any(filecmp.cmp(program, os.path.join(folder, name), shallow=False) for name in names)
+
+
+def make_clone(folder: str, top: str, program: str) -> str:
+    """A folder that looks like a clone of the repository. Its `uxn` never builds: it is the launcher only beside a program of dist/."""
     clone = os.path.join(folder, "uxn")
     os.mkdir(clone)
     for name in os.listdir(top):
@@ -124,6 +132,7 @@ def make_clone(folder: str, top: str) -> str:
             shutil.copytree(os.path.join(top, name), os.path.join(clone, name), symlinks=True)
         elif name not in (".git", "uxn"):
             os.symlink(os.path.join(top, name), os.path.join(clone, name))
+    os.symlink(os.path.join(top, "uxn") if is_of_dist(top, program) else program, os.path.join(clone, "uxn"))
     return clone
 
 
@@ -134,7 +143,7 @@ def environment(folder: str, top: str, program: str) -> dict[str, str]:
     extras = [os.path.join(top, "extras", name) for name in ("bin", "dropins")]
     path = os.pathsep.join([tools, *extras, os.environ["PATH"]])
     return {"PATH": path, "HOME": folder, "TMPDIR": folder, "LC_ALL": "C.UTF-8", "TZ": "UTC", "TERM": "dumb",
-            "COLUMNS": "100", "PYTHONDONTWRITEBYTECODE": "1", "GIT_CONFIG_GLOBAL": os.devnull}
+            "COLUMNS": "100", "PYTHONDONTWRITEBYTECODE": "1", "UXN_JOBS": "1", "GIT_CONFIG_GLOBAL": os.devnull}
 
 
 def run(steps: list[Step], top: str, program: str) -> list[Ran]:
@@ -146,7 +155,7 @@ def run(steps: list[Step], top: str, program: str) -> list[Ran]:
             file.write(script_of(steps))
         with open(os.path.join(folder, "said"), "w+b") as said:
             try:
-                subprocess.run(["bash", "--norc", script], cwd=make_clone(folder, top), env=variables, timeout=SECONDS,
+                subprocess.run(["bash", "--norc", script], cwd=make_clone(folder, top, program), env=variables, timeout=SECONDS,
                                stdin=subprocess.DEVNULL, stdout=said, stderr=subprocess.STDOUT, check=False)
             except subprocess.TimeoutExpired:
                 pass

@@ -4,11 +4,10 @@ from __future__ import annotations
 import functools
 import os
 import re
-import subprocess
 from collections.abc import Iterator
 from dataclasses import dataclass, field
 
-from pagechecks import markdown
+from pagechecks import files, markdown
 from pagechecks.markdown import Page
 
 # What users make or builds leave, and files that are no part of the repository.
@@ -34,9 +33,7 @@ class Repository:
     anchors: dict[str, set[str]] = field(default_factory=dict)
 
     def __post_init__(self) -> None:
-        words = ["git", "ls-files", "--cached", "--others", "--exclude-standard"]
-        listed = subprocess.run(words, capture_output=True, text=True, check=True).stdout.split("\n")
-        self.files = [file for file in listed if os.path.exists(file)]
+        self.files = files.listed()
         self.places = {*self.files, *(file[:at] for file in self.files for at, sign in enumerate(file) if sign == "/")}
         self.crates = re.findall(r"(?m)^(\w+):", read("crates.txt"))
         table = read("crates/uxn_arguments/src/options.rt")
@@ -45,7 +42,7 @@ class Repository:
 
     def options_of_tools(self) -> set[str]:
         """The options of the tools that come with `uxn`, and of other programs that pages call."""
-        places = re.compile(r"extras/(bin|dropins|uxntools)/|extras/package|conformance/[^/]+$|\.ci/")
+        places = re.compile(r"extras/(bin|dropins|uxntools)/|extras/package|conformance/[^/]+$|\.ci/|tools/|(test|install|uxn)$")
         tools = [file for file in self.files if places.match(file)]
         found = {option for tool in tools for option in re.findall(r"--([a-z][a-z-]+)", self.text_of(tool))}
         return found | {"sshlogin", "dirty"}

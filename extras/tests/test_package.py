@@ -4,49 +4,76 @@ from __future__ import annotations
 import atexit
 import functools
 import hashlib
+import json
 import os
+import platform
 import re
 import shutil
 import stat
 import subprocess
+import sys
 import tarfile
 import tempfile
 import unittest
 
 from support import EXAMPLES, EXTRAS, TOP, ToolTest, needs
 
+sys.path.append(os.path.join(EXTRAS, "packaging"))
+import contents  # noqa: E402
+
 # What the package needs, and what a user has who reads manual pages and completes words.
 THERE = ["libc6", "libc-bin", "python3", "dash", "bash", "coreutils", "grep", "sed", "man-db", "bash-completion"]
+# The number of the processor in the head of a program, and how a page of Markdown names a file.
+AARCH64 = 183
+LINK = re.compile(r"\]\(([^)#:\s]+)(?:#[^)]*)?\)")
 UNNEEDED = re.compile(
     r"/usr/share/(doc|locale|info|lintian|man|i18n|bug)/|/usr/lib/python3\.\d+/(test|idlelib|lib2to3|pydoc_data)/"
 )
 
 
+def make_dist(folder: str, program: bytes) -> None:
+    """A folder as dist/ is, with a program as that of both machines: for ARM its head says so."""
+    os.mkdir(folder)
+    files = {"uxn-linux-x86_64": program, "uxn-linux-aarch64": program[:18] + AARCH64.to_bytes(2, "little") + program[20:]}
+    for name, data in files.items():
+        with open(os.path.join(folder, name), "wb") as file:
+            file.write(data)
+    sums = {name: hashlib.sha256(data).hexdigest() for name, data in files.items()}
+    with open(os.path.join(folder, "manifest.json"), "w", encoding="utf-8") as manifest:
+        json.dump({"version": "0", "files": sums}, manifest)
+
+
 @functools.cache
-def packages() -> tuple[str, str]:
-    """A folder with the packages, which are made once for all tests, and what was said of them."""
+def packages() -> str:
+    """A folder with the packages, which are made once for all tests, and with the dist/ that they are made of."""
     folder = tempfile.mkdtemp(prefix="uxn-packages-")
     atexit.register(shutil.rmtree, folder, ignore_errors=True)
-    done = subprocess.run(
-        [os.path.join(EXTRAS, "package"), os.environ["UXN"], "--out", folder],
-        capture_output=True,
-        text=True,
-        check=False,
-    )
+    with open(os.environ["UXN"], "rb") as file:
+        make_dist(os.path.join(folder, "dist"), file.read())
+    words = [os.path.join(EXTRAS, "package"), "--dist", os.path.join(folder, "dist"), "--out", folder]
+    done = subprocess.run(words, capture_output=True, text=True, check=False)
     if done.returncode:
         raise AssertionError(done.stderr)
-    return folder, done.stdout
+    return folder
 
 
-@needs("dpkg-deb", "objdump")
+@needs("dpkg-deb")
+@unittest.skipUnless(platform.machine() == "x86_64", "the packages are tried on x86-64")
 class PackageTest(ToolTest):
     def setUp(self) -> None:
         super().setUp()
-        folder, self.said = packages()
+        folder = packages()
         with open(os.path.join(TOP, "VERSION"), encoding="ascii") as file:
             self.version = file.read().strip()
-        self.tar = os.path.join(folder, f"uxn-{self.version}.tar.gz")
-        self.deb = os.path.join(folder, f"uxn_{self.version}_amd64.deb")
+        self.dist = os.path.join(folder, "dist")
+        self.tar, self.deb = self.tar_and_deb("x86_64", "amd64", folder)
+        self.all = [self.tar, self.deb, *self.tar_and_deb("aarch64", "arm64", folder)]
+
+    def tar_and_deb(self, machine: str, debian: str, folder: str) -> tuple[str, str]:
+        return (
+            os.path.join(folder, f"uxn-{self.version}-{machine}.tar.gz"),
+            os.path.join(folder, f"uxn_{self.version}_{debian}.deb"),
+        )
 
 
 def sum_of(path: str) -> str:
@@ -55,24 +82,33 @@ def sum_of(path: str) -> str:
 
 
 class Files(PackageTest):
+    def package(self, dist: str, out: str, **environment: str) -> str:
+        return self.succeed(os.path.join(EXTRAS, "package"), "--dist", dist, "--out", out, **environment)
+
     def test_they_are_the_same_when_made_again(self) -> None:
         mask = os.umask(0o077)
         self.addCleanup(os.umask, mask)
-        self.succeed(
-            os.path.join(EXTRAS, "package"),
-            self.program,
-            "--out",
-            "again",
-            TZ="XXX-5",
-            LC_ALL="C",
-            SOURCE_DATE_EPOCH="5",
-        )
+        said = self.package(self.dist, "again", TZ="XXX-5", LC_ALL="C", SOURCE_DATE_EPOCH="5")
         os.umask(mask)
-        for path in (self.tar, self.deb):
+        self.assertEqual(said.splitlines(), [f"again/{os.path.basename(path)}" for path in self.all])
+        for path in self.all:
             self.assertEqual(sum_of(path), sum_of(self.path(f"again/{os.path.basename(path)}")), path)
-        self.write("other", self.read(".bin/uxn") + b"\0")
-        self.succeed(os.path.join(EXTRAS, "package"), "other", "--out", "other-program")
-        self.assertNotEqual(sum_of(self.tar), sum_of(self.path(f"other-program/{os.path.basename(self.tar)}")))
+        make_dist(self.path("dist"), self.read(".bin/uxn") + b"\0")
+        self.package("dist", "other")
+        for path in self.all:
+            self.assertNotEqual(sum_of(path), sum_of(self.path(f"other/{os.path.basename(path)}")), path)
+
+    def test_each_machine_has_its_program(self) -> None:
+        for machine, debian in (("x86_64", "amd64"), ("aarch64", "arm64")):
+            tar, deb = self.tar_and_deb(machine, debian, packages())
+            with open(os.path.join(self.dist, f"uxn-linux-{machine}"), "rb") as file:
+                program = file.read()
+            self.assertEqual(self.succeed("dpkg-deb", "-f", deb, "Architecture"), f"{debian}\n")
+            self.succeed("dpkg-deb", "-x", deb, machine)
+            self.assertEqual(self.read(f"{machine}/usr/lib/uxn/uxn"), program)
+            with tarfile.open(tar) as archive:
+                found = archive.extractfile(f"uxn-{self.version}-{machine}/lib/uxn/uxn")
+                self.assertEqual(found and found.read(), program)
 
     def test_the_tar_file(self) -> None:
         with tarfile.open(self.tar) as file:
@@ -82,7 +118,7 @@ class Files(PackageTest):
         )
         self.assertEqual({oct(member.mode) for member in members if member.isfile()}, {"0o755", "0o644"})
         self.assertEqual(len({member.mtime for member in members}), 1)
-        self.assertEqual([member.name for member in members if not member.name.startswith(f"uxn-{self.version}")], [])
+        self.assertEqual([member.name for member in members if not member.name.startswith(f"uxn-{self.version}-x86_64")], [])
         self.succeed("mkdir", "local")
         self.succeed("tar", "-C", "local", "--strip-components=1", "-xzf", self.tar)
         shutil.copytree(EXAMPLES, self.path("examples"))
@@ -96,42 +132,62 @@ class Files(PackageTest):
         self.assertEqual(
             self.succeed(self.path("local/share/uxn/dropins/uxncli"), "h.rom", PATH=path), "Hello, Uxn!\n"
         )
-        shutil.copy(self.tar, self.path("uxn.tar.gz"))
-        self.succeed("sh", "-c", "cd local && tar -tzf ../uxn.tar.gz | grep -v '/$' | cut -d/ -f2- | xargs rm")
-        self.assertEqual([name for _, _, names in os.walk(self.path("local")) for name in names], [])
+        self.assertEqual(self.succeed("uxn", "--version", PATH=path), f"uxn {self.version}\n")
+        self.assertIn("uxn play SRC", self.succeed("uxn", "--help", PATH=path))
 
-    def test_links_of_its_pages_lead_somewhere(self) -> None:
-        """What a page links to among pages and examples is in the package where it is in the repository."""
+    def test_removing_leaves_what_was_there(self) -> None:
+        """Neither a file nor a folder of the tar file is left, and what others have there stays."""
+        self.write("local/share/man/man1/other.1", "")
+        self.succeed("tar", "-C", "local", "--strip-components=1", "-xzf", self.tar)
+        self.assertTrue(os.path.isdir(self.path("local/share/doc/uxn/docs")))
+        self.succeed("local/share/uxn/remove")
+        left = [os.path.join(place, name) for place, _, names in os.walk(self.path("local")) for name in [".", *names]]
+        man = self.path("local/share/man/man1")
+        folders = [self.path("local"), self.path("local/share"), self.path("local/share/man"), man]
+        self.assertEqual(sorted(left), sorted([*(f"{folder}/." for folder in folders), f"{man}/other.1"]))
+
+    def test_links_of_its_pages_lead_to_what_is_installed(self) -> None:
         self.succeed("dpkg-deb", "-x", self.deb, "to")
-        top, links = self.path("to/usr/share/doc/uxn"), set()
-        for folder, _, names in os.walk(top):
-            for name in names:
-                if name.endswith(".md"):
-                    with open(os.path.join(folder, name), encoding="utf-8") as file:
-                        found = re.findall(r"\]\(([^)#:\s]+)", file.read())
-                    links |= {os.path.relpath(os.path.join(folder, link), top) for link in found}
-        wanted = {
-            link
-            for link in links
-            if re.match(r"(docs|examples)/|[^/]*\.md$", link) and os.path.exists(os.path.join(TOP, link))
-        }
-        self.assertGreater(len(wanted), 20)
-        self.assertEqual({link for link in wanted if not os.path.exists(os.path.join(top, link))}, set())
+        top = self.path("to/usr/share/doc/uxn")
+        pages = [os.path.join(place, name) for place, _, names in os.walk(top) for name in names if name.endswith(".md")]
+        self.assertGreater(len(pages), 25)
+        links, lost = 0, []
+        for page in pages:
+            with open(page, encoding="utf-8") as file:
+                found = LINK.findall(re.sub(r"(?ms)^```.*?^```|`[^`\n]*`", "", file.read()))
+            links += len(found)
+            lost += [(page, link) for link in found if not os.path.exists(os.path.join(os.path.dirname(page), link))]
+        self.assertEqual(lost, [])
+        self.assertGreater(links, 100)
+
+    def test_links_elsewhere_lose_their_targets(self) -> None:
+        page = "[a](there.md#x) [`b`](../gone.md) ![p](gone.png) [c](https://x.example/) [d [e] f](gone/#y) [g](#here)"
+        text = contents.linked("docs/a.md", page, {"docs/there.md"})
+        self.assertEqual(text, "[a](there.md#x) `b` ![p](gone.png) [c](https://x.example/) d [e] f [g](#here)")
 
     def test_the_c_library(self) -> None:
-        least = re.search(r"GLIBC_([\d.]+)", self.said)
-        self.assertIn(f"libc6 (>= {least and least[1]})", self.succeed("dpkg-deb", "-f", self.deb, "Depends"))
+        least = contents.least_libc(self.read(".bin/uxn"))
+        self.assertIn(f"libc6 (>= {least}), ", self.succeed("dpkg-deb", "-f", self.deb, "Depends"))
         with open(os.path.join(TOP, "docs", "install.md"), encoding="utf-8") as file:
-            self.assertIn(f"glibc {least and least[1]} ", file.read())
+            self.assertIn(f"glibc {least} ", file.read())
+        self.assertEqual(contents.least_libc(b"\0GLIBC_2.4\0GLIBC_2.17\0GLIBC_2.2.5\0"), "2.17")
+        self.assertIsNone(contents.least_libc(b"\x7fELF GLIBC_2.4"))
+
+    @needs("objdump")
+    def test_the_c_library_as_objdump_finds_it(self) -> None:
         wanted = re.findall(r"GLIBC_(\d+)\.(\d+)", self.succeed("objdump", "-T", self.program))
-        self.assertEqual("%d.%d" % max((int(major), int(minor)) for major, minor in wanted), least and least[1])
+        least = max((int(major), int(minor)) for major, minor in wanted)
+        self.assertEqual("%d.%d" % least, contents.least_libc(self.read(".bin/uxn")))
 
     def test_wrong_calls(self) -> None:
         tool = os.path.join(EXTRAS, "package")
-        self.refuse(2, tool)
-        self.refuse(1, tool, "gone")
-        self.assertIn("no built program", self.refuse(1, tool, self.write("script", "#!/bin/sh\n")))
-        self.assertFalse(os.path.exists(self.path(os.path.basename(self.tar))))
+        self.refuse(2, tool, "x")
+        self.assertIn("no uxn-linux-x86_64", self.refuse(1, tool, "--dist", "gone"))
+        make_dist(self.path("dist"), b"a program")
+        self.write("dist/uxn-linux-aarch64", b"another program")
+        line = self.refuse(1, tool, "--dist", "dist", "--out", "out")
+        self.assertEqual(line, "package: dist/uxn-linux-aarch64: it is not the file that manifest.json names")
+        self.assertFalse(os.path.exists(self.path("out")))
 
     @needs("lintian")
     def test_lintian_is_silent(self) -> None:
@@ -174,6 +230,18 @@ class Editors(PackageTest):
             "a.tal",
         )
         self.assertRegex(self.read("said"), rb"^uxntal\nuxn-check.*\nuxntal\n$")
+
+    @needs("nvim")
+    def test_neovim_looks_there(self) -> None:
+        """In the files of both packages, and not in the folder of Vim's files, which is not where Neovim looks."""
+        os.mkdir(self.path("local"))
+        self.succeed("tar", "-C", "local", "--strip-components=1", "-xzf", self.tar)
+        said = "[&ft, &indentexpr, get(b:, 'current_syntax', '')]"
+        words = ["nvim", "--headless", "-n", "-i", "NONE", "-u", "NORC", "-c", f"call writefile({said}, 'said')", "-c", "qa!"]
+        for share, is_found in (("to/usr/share", True), ("local/share", True), ("to/usr/share/vim/vimfiles", False)):
+            self.call(*words, "a.tal", XDG_DATA_DIRS=self.path(share), XDG_CONFIG_HOME=self.folder, XDG_DATA_HOME=self.folder)
+            found = re.fullmatch(rb"uxntal\n\S+\nuxntal\n", self.read("said"))
+            self.assertEqual(found is not None, is_found, share)
 
     @needs("emacs")
     def test_emacs_looks_there(self) -> None:
@@ -320,6 +388,8 @@ class FreshRoot(PackageTest):
         self.assertEqual(self.within(f"{examples}; uxn play hello.tal"), "Hello, Uxn!\n")
         self.assertEqual(self.within(f"{examples}; uxn play fizzbuzz.tal | head -n 3"), "1\n2\nFizz\n")
         self.assertIn("Hello, Uxn!\n", self.within(f"{examples}; uxn-sandbox play hello.tal"))
+        self.assertEqual(self.within("uxn --version; cd /; /bin/uxn --version"), f"uxn {self.version}\n" * 2)
+        self.assertIn("uxn play SRC", self.within("uxn --help"))
         self.assertIn("\nSYNOPSIS\n", self.within("man uxn"))
         self.assertIn("uxn-script - ", self.within("man uxn-script"))
         self.assertIn("uxn-commands - ", self.within("man 5 uxn-commands"))

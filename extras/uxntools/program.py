@@ -63,13 +63,19 @@ class Done:
         )
 
 
+def past_wrapper(path: str) -> str:
+    """The program that an installed `uxn` runs, which is a short script; another one is the program itself."""
+    beside = os.path.join(os.path.dirname(os.path.realpath(path)), "..", "lib", "uxn", "uxn")
+    return os.path.realpath(beside) if os.access(beside, os.X_OK) else path
+
+
 def path_of_uxn() -> str:
     """The program: an absolute path, so that it can be called in any folder."""
     name = os.environ.get("UXN", "uxn")
     found = shutil.which(name)
     if found is None:
         raise Failure(f"there is no program {name}: put uxn into PATH, or its path into UXN", 127)
-    return os.path.abspath(found)
+    return past_wrapper(os.path.abspath(found))
 
 
 def call(*words: str, folder: str | None = None, stdin: bytes = b"", seconds: float | None = None) -> Done:
