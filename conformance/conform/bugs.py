@@ -8,7 +8,7 @@ from dataclasses import dataclass
 
 from conform import making, tests
 from conform.execute import Command
-from uxntools.cli import Failure
+from conform.cli import Failure
 
 SECOND = os.path.join(tests.TOP, "second")
 

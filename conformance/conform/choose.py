@@ -5,7 +5,7 @@ import fnmatch
 
 from conform import tests
 from conform.tests import Test
-from uxntools.cli import Failure
+from conform.cli import Failure
 
 
 def chosen(

@@ -13,7 +13,7 @@ from conform import execute, making, random_roms, random_sources, shrink, tests
 from conform.execute import Command, Got
 from conform.random_roms import Program
 from conform.tests import Test
-from uxntools.cli import Failure
+from conform.cli import Failure
 
 SECONDS = 5
 # How many smaller inputs are tried for a difference.
