@@ -9,8 +9,9 @@ import time
 from collections.abc import Iterator
 from dataclasses import dataclass
 
-from conform import execute, making, random_roms, random_sources, shrink, tests
-from conform.execute import Command, Got
+from conform import differences, execute, random_roms, random_sources, second, shrink, tests
+from conform.differences import Got
+from conform.execute import Command
 from conform.random_roms import Program
 from conform.tests import Test
 from conform.cli import Failure
@@ -49,7 +50,7 @@ class Emulators:
     def run(self, program: Program, rom: bytes) -> tuple[Got, Got]:
         """What both give."""
         with tempfile.TemporaryDirectory(dir=self.scratch) as folder:
-            making.write_file(folder, "a.rom", rom)
+            second.write_file(folder, "a.rom", rom)
             test = Test("random", "", "", "processor", "a.tal", rom="a.rom", files=program.files, events=program.events)
             test.want.after = {} if "after" in program.takes else None
             test.want.frames = "-" if "frames" in program.takes and self.other.has("frames") else None
@@ -97,7 +98,7 @@ def single_case(program: Program, emulators: Emulators) -> Program:
     """The first case whose line differs, alone, where it differs alone too."""
     rom = emulators.assembled(program.source())
     right, other = emulators.run(program, rom or b"")
-    number = right.out.count(b"\n", 0, execute.first_difference(right.out, other.out))
+    number = right.out.count(b"\n", 0, differences.first_difference(right.out, other.out))
     if number < len(program.pieces):
         alone = random_roms.one_case(program.pieces[number], emulators.driver)
         if emulators.differ(alone):
@@ -123,13 +124,13 @@ def kept(program: Program, emulators: Emulators, folder: str, name: str) -> Diff
         files=program.files,
         events=program.events,
     )
-    making.write_file(folder, test.source, program.source().encode())
-    making.write_file(folder, f"{name}.rom", rom)
-    test.want.out = making.write_file(folder, f"{name}.out", right.out)
+    second.write_file(folder, test.source, program.source().encode())
+    second.write_file(folder, f"{name}.rom", rom)
+    test.want.out = second.write_file(folder, f"{name}.out", right.out)
     test.want.status = right.status
     test.want.after = right.after if "after" in program.takes else None
     if right.frames is not None:
-        test.want.frames = making.write_file(folder, f"{name}.ppm", right.frames)
+        test.want.frames = second.write_file(folder, f"{name}.ppm", right.frames)
     test.lines = "cases" if program.kind == "instructions" else None
     return Difference(test, execute.run_test(test, emulators.other, folder, SECONDS).said)
 
@@ -202,11 +203,11 @@ def compare_assemblers(
 def kept_source(words: list[str], assemblers: Assemblers, folder: str, name: str) -> Difference:
     right, _ = assemblers.outcomes(words)
     test = Test(name, "a difference found by compare: a source", "random sources", "assembler", f"{name}.tal")
-    making.write_file(folder, test.source, "\n".join(words).encode())
+    second.write_file(folder, test.source, "\n".join(words).encode())
     if right is None:
         test.want.refused = "refused"
     else:
-        test.want.rom = making.write_file(folder, f"{name}.rom", right)
+        test.want.rom = second.write_file(folder, f"{name}.rom", right)
     return Difference(test, execute.run_test(test, assemblers.other, folder, SECONDS).said)
 
 

@@ -136,7 +136,8 @@ def values_of(test: Test, command: Command, folder: str, suite: str) -> dict[str
 
 def run_emulator(test: Test, command: Command, folder: str, suite: str, seconds: float) -> Got:
     """Runs a test's ROM in a folder that is there for it alone."""
-    files = os.path.join(folder, "files")
+    # A short name: the path of a file is the folder and the name, and has a limit.
+    files = os.path.join(folder, "f")
     os.mkdir(files)
     tests.make_tree(test.files or {}, files)
     values = values_of(test, command, folder, suite)

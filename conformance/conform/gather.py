@@ -7,10 +7,11 @@ import json
 import os
 from typing import Any
 
-from conform import cases, from_cases, scripts
+from conform import cases, from_cases, language, scripts
 from conform.drafts import Draft
 from conform.instructions import MODES, NAMES, name_of, modes_of
 from conform.tests import TOP, Tree, tree_of
+from conform.tests import driver as tests_driver
 from conform.cli import Failure
 
 SOURCES = os.path.join(TOP, "sources")
@@ -22,7 +23,7 @@ def text_of(name: str) -> str:
 
 
 def processor_draft(name: str, shows: str, reference: str, chosen: list[cases.Case], with_memory: bool) -> Draft:
-    source = cases.source_of(chosen, text_of("driver.tal"), shows, with_memory)
+    source = cases.source_of(chosen, tests_driver(), shows, with_memory)
     return Draft(f"processor/{name}", shows, reference, "processor", source.encode(), ["console"], by_cases=True)
 
 
@@ -178,7 +179,7 @@ def stored_drafts() -> list[Draft]:
 
 
 def all_drafts() -> list[Draft]:
-    drafts = processor_drafts() + case_drafts() + stored_drafts()
+    drafts = processor_drafts() + case_drafts() + stored_drafts() + language.drafts()
     names = [draft.name for draft in drafts]
     twice = {name for name in names if names.count(name) > 1}
     if twice:

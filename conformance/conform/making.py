@@ -335,7 +335,8 @@ def disagreement(test: Test, tools: Tools, suite: str) -> list[str]:
     """What the second emulator or assembler gives otherwise."""
     if test.kind == "disassembler":
         return text_disagreement(test, tools, suite)
-    if test.is_of_assembler and test.want.refused in PROFILE_KINDS:
+    # The second assembler goes once through the words, so it reports another of two faults.
+    if test.is_of_assembler and (test.want.refused in PROFILE_KINDS or test.want.names):
         return []
     command = tools.assembler if test.is_of_assembler else tools.emulator
     result = execute.run_test(test, command, suite, SECONDS)

@@ -127,6 +127,12 @@ def as_item(test: Test) -> dict[str, Any]:
     return item
 
 
+def driver() -> str:
+    """The source that runs the cases of the processor's tests."""
+    with open(os.path.join(TOP, "sources", "driver.tal"), encoding="utf-8") as file:
+        return file.read()
+
+
 def version() -> str:
     """The version of the suite."""
     with open(os.path.join(TOP, "VERSION"), encoding="ascii") as file:
