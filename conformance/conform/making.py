@@ -14,13 +14,8 @@ from conform.differences import Got
 from conform.drafts import Draft
 from conform.execute import Command
 from conform.second import SECONDS, Tools, second_command, uxn_command, write_file
-from conform.tests import Test, Tree, Twin
+from conform.tests import PROFILE_KINDS, Test, Tree, Twin
 
-# Faults of an assembler on which the public reference says nothing.
-PROFILE_KINDS = (
-    "LongSource LongWord MacroDeep ManyWords StrayParen IncludePath IncludeDeep IncludeMany IncludeLong "
-    "IncludeLongText"
-).split()
 LARGEST = 60_000
 # Up to how many bytes a ROM has the line of each.
 LONGEST_LINES = 600

@@ -24,6 +24,11 @@ LEVELS = (
     "programs",
 )
 DEVICES = ("system", "console", "screen", "audio", "controller", "mouse", "file", "datetime")
+# Faults of an assembler on which the public reference says nothing.
+PROFILE_KINDS = (
+    "LongSource LongWord MacroDeep ManyWords StrayParen IncludePath IncludeDeep IncludeMany IncludeLong "
+    "IncludeLongText"
+).split()
 # The files of a folder: the bytes of each in hexadecimal, perhaps with how often they stand there (`20*1000`); None
 # for a folder.
 Tree = dict[str, str | None]
@@ -178,6 +183,10 @@ def tree_of(folder: str) -> Tree:
             with open(path, "rb") as file:
                 found[os.path.relpath(path, folder)] = file.read().hex()
     return dict(sorted(found.items()))
+
+
+def text_of_events(events: list[Event]) -> str:
+    return json.dumps(events)
 
 
 def unpacked(data: str) -> bytes:
