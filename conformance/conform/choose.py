@@ -5,14 +5,14 @@ import fnmatch
 
 from conform import tests
 from conform.tests import Test
-from uxntools.cli import Failure
+from conform.cli import Failure
 
 
 def chosen(
-    all_tests: list[Test], of_assembler: bool, levels: list[str], devices: list[str], profile: bool, names: list[str]
+    all_tests: list[Test], kind: str, levels: list[str], devices: list[str], profile: bool, names: list[str]
 ) -> list[Test]:
-    """The tests of an emulator or an assembler that the options leave; a name may have `*` and `?`."""
-    found = [test for test in all_tests if test.is_of_assembler == of_assembler]
+    """The tests of a kind of program that the options leave; a name may have `*` and `?`. There has to be one."""
+    found = [test for test in all_tests if test.kind == kind]
     if levels:
         found = [test for test in found if test.level in levels]
     if devices:
@@ -24,6 +24,9 @@ def chosen(
             raise Failure(f"no test is called {name}", 2)
     if names:
         found = [test for test in found if any(fnmatch.fnmatchcase(test.name, name) for name in names)]
+    if not found:
+        profile_hint = "" if profile or names else "; some need --profile"
+        raise Failure(f"no test of {'an' if kind[0] in 'ae' else 'a'} {kind} is chosen{profile_hint}", 2)
     return found
 
 

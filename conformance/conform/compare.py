@@ -1,4 +1,4 @@
-"""Random programs on two emulators, random sources on two assemblers: a difference is made smaller and kept."""
+"""Random programs on two emulators: a difference is made smaller and kept, once for each cause."""
 from __future__ import annotations
 
 import os
@@ -9,23 +9,17 @@ import time
 from collections.abc import Iterator
 from dataclasses import dataclass
 
-from conform import execute, making, random_roms, random_sources, shrink, tests
-from conform.execute import Command, Got
+from conform import differences, execute, random_roms, second, shrink, tests
+from conform.cli import Failure
+from conform.compare_sources import Difference
+from conform.differences import Got
+from conform.execute import Command
 from conform.random_roms import Program
 from conform.tests import Test
-from uxntools.cli import Failure
 
 SECONDS = 5
 # How many smaller inputs are tried for a difference.
 TRIALS = 300
-
-
-@dataclass
-class Difference:
-    """A test that the other program fails, and what it said."""
-
-    test: Test
-    said: list[str]
 
 
 @dataclass
@@ -49,10 +43,11 @@ class Emulators:
     def run(self, program: Program, rom: bytes) -> tuple[Got, Got]:
         """What both give."""
         with tempfile.TemporaryDirectory(dir=self.scratch) as folder:
-            making.write_file(folder, "a.rom", rom)
+            second.write_file(folder, "a.rom", rom)
             test = Test("random", "", "", "processor", "a.tal", rom="a.rom", files=program.files, events=program.events)
             test.want.after = {} if "after" in program.takes else None
-            test.want.frames = "-" if "frames" in program.takes and self.other.has("frames") else None
+            for name in ("frames", "samples"):
+                setattr(test.want, name, "-" if name in program.takes and self.other.has(name) else None)
             outcomes = []
             for name, command in (("right", self.right), ("other", self.other)):
                 os.mkdir(os.path.join(folder, name))
@@ -65,11 +60,25 @@ class Emulators:
         if rom is None:
             return False
         right, other = self.run(program, rom)
-        return right.status is not None and not same(right, other)
+        return right.status is not None and shows(right, program) and not same(right, other)
+
+
+def shows(right: Got, program: Program) -> bool:
+    """Whether something comes out that can be compared: a program without any shows nothing."""
+    return bool(right.out or right.frames or right.samples) or right.after != (program.files or {})
 
 
 def same(right: Got, other: Got) -> bool:
-    return (right.status, right.out, right.after, right.frames) == (other.status, other.out, other.after, other.frames)
+    names = ("status", "out", "after", "frames", "samples")
+    return all(getattr(right, name) == getattr(other, name) for name in names)
+
+
+def cause_of(program: Program) -> str:
+    """The form of a program without its numbers: differences of one form have one cause, as far as can be seen."""
+    words = set(re.findall(r"(?<!\S)[A-Z]{3}[2kr]*(?!\S)", " ".join(program.pieces)))
+    ports = set(re.findall(r"#([0-9a-f]{2}) (?:DEO|DEI)", " ".join(program.pieces)))
+    events = sorted({event[0] for event in program.events or []})
+    return f"{program.kind} {sorted(words)} {sorted(ports)} {events}"
 
 
 def made_smaller(program: Program, emulators: Emulators) -> Program:
@@ -97,7 +106,7 @@ def single_case(program: Program, emulators: Emulators) -> Program:
     """The first case whose line differs, alone, where it differs alone too."""
     rom = emulators.assembled(program.source())
     right, other = emulators.run(program, rom or b"")
-    number = right.out.count(b"\n", 0, execute.first_difference(right.out, other.out))
+    number = right.out.count(b"\n", 0, differences.first_difference(right.out, other.out))
     if number < len(program.pieces):
         alone = random_roms.one_case(program.pieces[number], emulators.driver)
         if emulators.differ(alone):
@@ -109,9 +118,8 @@ def kept(program: Program, emulators: Emulators, folder: str, name: str) -> Diff
     """The program as a test of a suite of its own, with what the other one gives otherwise."""
     rom = emulators.assembled(program.source()) or b""
     right, _ = emulators.run(program, rom)
-    level = {"instructions": "processor", "programs": "programs", "system": "console", "inputs": "controller"}.get(
-        program.kind, program.kind
-    )
+    levels = {"instructions": "processor", "system": "console", "inputs": "controller", "sound": "audio", "clock": "datetime"}
+    level = levels.get(program.kind, program.kind)
     test = Test(
         name,
         f"a difference found by compare: {program.kind}",
@@ -123,23 +131,26 @@ def kept(program: Program, emulators: Emulators, folder: str, name: str) -> Diff
         files=program.files,
         events=program.events,
     )
-    making.write_file(folder, test.source, program.source().encode())
-    making.write_file(folder, f"{name}.rom", rom)
-    test.want.out = making.write_file(folder, f"{name}.out", right.out)
+    second.write_file(folder, test.source, program.source().encode())
+    second.write_file(folder, f"{name}.rom", rom)
+    test.want.out = second.write_file(folder, f"{name}.out", right.out)
     test.want.status = right.status
     test.want.after = right.after if "after" in program.takes else None
     if right.frames is not None:
-        test.want.frames = making.write_file(folder, f"{name}.ppm", right.frames)
+        test.want.frames = second.write_file(folder, f"{name}.ppm", right.frames)
+    if right.samples is not None:
+        test.want.samples = second.write_file(folder, f"{name}.raw", right.samples)
     test.lines = "cases" if program.kind == "instructions" else None
     return Difference(test, execute.run_test(test, emulators.other, folder, SECONDS).said)
 
 
-def kinds_for(other: Command, chosen: list[str]) -> list[str]:
-    """The kinds of programs that the other emulator can run."""
+def kinds_for(other: Command, chosen: list[str], profile: bool) -> list[str]:
+    """The kinds of programs that the other emulator can run; all of sound is profile."""
     kinds = [kind for kind in random_roms.KINDS if not chosen or kind in chosen]
-    kinds = [kind for kind in kinds if kind not in ("screen", "inputs") or other.has("events")]
+    kinds = [kind for kind in kinds if kind not in ("screen", "inputs", "clock", "sound") or other.has("events")]
+    kinds = [kind for kind in kinds if kind != "sound" or profile and other.has("samples")]
     if not kinds:
-        raise Failure("the command has no place {events}, which these kinds of programs need", 2)
+        raise Failure("the command has no place for what these kinds of programs need, or they need --profile", 2)
     return kinds
 
 
@@ -147,67 +158,22 @@ def compare_emulators(
     emulators: Emulators, folder: str, kinds: list[str], seed: int, seconds: float, count: int | None, most: int
 ) -> Iterator[Difference | None]:
     """Runs random programs for so long; gives each difference, and None for each program on which both agree."""
-    end, found, at = time.monotonic() + seconds, 0, 0
-    while (at < count if count is not None else time.monotonic() < end) and found < most:
+    end, at = time.monotonic() + seconds, 0
+    causes: set[str] = set()
+    while (at < count if count is not None else time.monotonic() < end) and len(causes) < most:
         rng = random.Random(f"{seed} {at}")
         program = random_roms.random_program(kinds[at % len(kinds)], rng, emulators.driver, emulators.profile)
         at += 1
         if not emulators.differ(program):
             yield None
             continue
-        found += 1
-        yield kept(made_smaller(program, emulators), emulators, folder, f"found/{seed}-{at - 1}-{program.kind}")
-
-
-@dataclass
-class Assemblers:
-    uxn: str
-    other: Command
-    scratch: str
-    trials: int = TRIALS
-
-    def outcomes(self, pieces: list[str]) -> tuple[bytes | None, bytes | None]:
-        """The ROM of each, None for a refusal."""
-        with tempfile.TemporaryDirectory(dir=self.scratch) as folder:
-            tests.make_tree({"a.tal": "\n".join(pieces).encode().hex()}, folder)
-            right = execute.call([self.uxn, "asm", "a.tal", "--out", "right.rom"], folder, b"", SECONDS)
-            words = self.other.filled({"source": "a.tal", "rom": "other.rom", "symbols": "other.rom.sym"}, [])
-            other = execute.call(words, folder, b"", SECONDS)
-            roms = [execute.read_or_none(os.path.join(folder, name)) for name in ("right.rom", "other.rom")]
-        return roms[0] if right.status == 0 else None, roms[1] if other.status == 0 else None
-
-    def differ(self, pieces: list[str]) -> bool:
-        right, other = self.outcomes(pieces)
-        return right != other
-
-
-def compare_assemblers(
-    assemblers: Assemblers, folder: str, seed: int, seconds: float, count: int | None, most: int
-) -> Iterator[Difference | None]:
-    end, found, at = time.monotonic() + seconds, 0, 0
-    while (at < count if count is not None else time.monotonic() < end) and found < most:
-        pieces = random_sources.random_source(random.Random(f"{seed} {at}"))
-        at += 1
-        if not assemblers.differ(pieces):
+        program = made_smaller(program, emulators)
+        cause = cause_of(program)
+        if cause in causes:
             yield None
             continue
-        found += 1
-        trials = shrink.Trials(assemblers.trials)
-        pieces = shrink.fewer(pieces, assemblers.differ, trials)
-        words = shrink.fewer(" ".join(pieces).split(" "), assemblers.differ, trials)
-        words = shrink.smaller_numbers(words, assemblers.differ, trials)
-        yield kept_source(words, assemblers, folder, f"found/{seed}-{at - 1}-source")
-
-
-def kept_source(words: list[str], assemblers: Assemblers, folder: str, name: str) -> Difference:
-    right, _ = assemblers.outcomes(words)
-    test = Test(name, "a difference found by compare: a source", "random sources", "assembler", f"{name}.tal")
-    making.write_file(folder, test.source, "\n".join(words).encode())
-    if right is None:
-        test.want.refused = "refused"
-    else:
-        test.want.rom = making.write_file(folder, f"{name}.rom", right)
-    return Difference(test, execute.run_test(test, assemblers.other, folder, SECONDS).said)
+        causes.add(cause)
+        yield kept(program, emulators, folder, f"found/{seed}-{at - 1}-{program.kind}")
 
 
 def pieces_shown(source: str) -> list[str]:

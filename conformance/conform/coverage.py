@@ -10,7 +10,7 @@ from collections.abc import Callable
 from concurrent.futures import ThreadPoolExecutor
 from dataclasses import dataclass, field
 
-from conform import execute, making, tests
+from conform import execute, second, tests
 from conform.execute import Command
 from conform.instructions import IMMEDIATE, MODES, NAMES, name_of
 from conform.tests import Test
@@ -34,7 +34,7 @@ def end_of_driver(suite: str, all_tests: list[Test]) -> int:
     """The address behind the driver: that of the table of cases, which is the same in all tests that have one."""
     source = next(test.source for test in all_tests if test.lines == "cases")
     with tempfile.TemporaryDirectory(prefix="conform-") as folder:
-        command = making.second_assembler(os.path.join(tests.TOP, "second", "assembler"))
+        command = second.second_assembler(os.path.join(tests.TOP, "second", "assembler"))
         values = {"source": os.path.join(suite, source), "rom": "made.rom", "symbols": "made.rom.sym"}
         execute.call(command.filled(values, []), folder, b"", SECONDS)
         symbols = execute.read_or_none(os.path.join(folder, "made.rom.sym")) or b""
@@ -42,11 +42,11 @@ def end_of_driver(suite: str, all_tests: list[Test]) -> int:
     return int.from_bytes(found[1], "big") if found else 0
 
 
-def trace_of(test: Test, suite: str, second: str) -> list[tuple[str, int, int]]:
+def trace_of(test: Test, suite: str, emulator: str) -> list[tuple[str, int, int]]:
     """What a run came to: a letter, the address of the instruction, and the opcode or the port."""
     with tempfile.TemporaryDirectory(prefix="conform-") as folder:
         path = os.path.join(folder, "trace")
-        words = making.second_command(second).words
+        words = second.second_command(emulator).words
         execute.run_emulator(test, Command((words[0], "--trace", path, *words[1:])), folder, suite, SECONDS)
         with open(path, encoding="ascii") as file:
             rows = [line.split() for line in file if line[0] in "xrw"]
@@ -61,13 +61,13 @@ def add_run(found: Coverage, test: Test, rows: list[tuple[str, int, int]], drive
         counter.update({row[2] for row in rows if row[0] == letter})
 
 
-def measure(suite: str, second: str, jobs: int) -> Coverage:
+def measure(suite: str, emulator: str, jobs: int) -> Coverage:
     all_tests = tests.read(suite)
     driver_end = end_of_driver(suite, all_tests)
     found = Coverage()
     runs = [test for test in all_tests if not test.is_of_assembler]
     with ThreadPoolExecutor(jobs) as pool:
-        for test, rows in zip(runs, pool.map(lambda test: trace_of(test, suite, second), runs)):
+        for test, rows in zip(runs, pool.map(lambda test: trace_of(test, suite, emulator), runs)):
             add_run(found, test, rows, driver_end)
     found.faults.update(test.want.refused for test in all_tests if test.want.refused)
     return found

@@ -1,4 +1,4 @@
-"""Runs a test on an emulator or an assembler, and says what differs."""
+"""Runs a test on an emulator, an assembler or a disassembler, and says what differs."""
 from __future__ import annotations
 
 import json
@@ -9,30 +9,21 @@ import shutil
 import signal
 import subprocess
 import tempfile
+import time
 from collections.abc import Iterable, Iterator
 from concurrent.futures import ThreadPoolExecutor
 from dataclasses import dataclass, field
 
-from conform import tests
+from conform import differences, sdl, tests
+from conform.cli import Failure
+from conform.differences import Got
 from conform.tests import Test, Tree
-from uxntools.cli import Failure
 
 PASSED, FAILED, NOT_RUN = "passed", "failed", "not run"
-PLACES = re.compile(r"\{(rom|args|events|frames|samples|source|symbols)\}")
-
-
-@dataclass
-class Got:
-    """What a run gave."""
-
-    status: int | None
-    out: bytes = b""
-    err: bytes = b""
-    after: Tree = field(default_factory=dict)
-    frames: bytes | None = None
-    samples: bytes | None = None
-    rom: bytes | None = None
-    symbols: bytes | None = None
+PLACES = re.compile(r"\{(rom|args|events|sdl|clock|frames|picture|samples|source|symbols)\}")
+# The place that each kind of program needs.
+NEEDED = {"emulator": "rom", "assembler": "source", "disassembler": "rom"}
+ROM, SYMBOLS = "made.rom", "made.rom.sym"
 
 
 @dataclass
@@ -43,13 +34,15 @@ class Result:
     state: str
     said: list[str] = field(default_factory=list)
     seconds: float = 0.0
+    got: Got | None = None
 
 
 @dataclass(frozen=True)
 class Command:
-    """The words of an emulator or an assembler, with places for what a test has."""
+    """The words of a program's call, with places for what a test has."""
 
     words: tuple[str, ...]
+    text: str = ""
 
     @staticmethod
     def read(text: str, needed: str) -> Command:
@@ -63,12 +56,8 @@ class Command:
         program = shutil.which(words[0])
         if program is None:
             raise Failure(f"there is no program {words[0]}", 2)
-        return Command(
-            (
-                os.path.abspath(program),
-                *(os.path.abspath(word) if "/" in word and os.path.exists(word) else word for word in words[1:]),
-            )
-        )
+        paths = (os.path.abspath(word) if "/" in word and os.path.exists(word) else word for word in words[1:])
+        return Command((os.path.abspath(program), *paths), text)
 
     def has(self, place: str) -> bool:
         return any("{" + place + "}" in word for word in self.words)
@@ -115,170 +104,112 @@ def call(words: list[str], folder: str, stdin: bytes, seconds: float) -> Got:
     return Got(running.returncode, out, err)
 
 
+def clock_of(test: Test) -> str:
+    """The moment of a test's clock: seconds since 1970, the offset of its zone added."""
+    found = next((event for event in test.events or [] if event[0] == "clock"), ["clock", 0, 0])
+    return str(found[1] + 60 * (found[2] if len(found) > 2 else 0))
+
+
+def written(path: str, text: str) -> str:
+    with open(path, "w", encoding="ascii") as file:
+        file.write(text)
+    return path
+
+
+def values_of(test: Test, command: Command, folder: str, suite: str) -> dict[str, str]:
+    """What stands in the places of an emulator's command; the files of events are made here."""
+    values = {"rom": os.path.join(suite, test.rom or "")}
+    for name, is_wanted in (
+        ("frames", test.want.frames is not None),
+        ("picture", test.want.frames is not None and test.has_one_picture),
+        ("samples", test.want.samples is not None),
+    ):
+        if is_wanted:
+            values[name] = os.path.join(folder, name)
+    if test.events is not None:
+        values["clock"] = clock_of(test)
+        values["events"] = written(os.path.join(folder, "events.json"), json.dumps(test.events))
+        if command.has("sdl"):
+            values["sdl"] = written(os.path.join(folder, "events.sdl"), sdl.lines_of(test.events))
+    return values
+
+
 def run_emulator(test: Test, command: Command, folder: str, suite: str, seconds: float) -> Got:
     """Runs a test's ROM in a folder that is there for it alone."""
-    files = os.path.join(folder, "files")
+    # A short name: the path of a file is the folder and the name, and has a limit.
+    files = os.path.join(folder, "f")
     os.mkdir(files)
     tests.make_tree(test.files or {}, files)
-    values = {name: os.path.join(folder, name) for name in ("frames", "samples")}
-    values = {name: path for name, path in values.items() if getattr(test.want, name) is not None}
-    values["rom"] = os.path.join(suite, test.rom or "")
-    if test.events is not None:
-        values["events"] = os.path.join(folder, "events.json")
-        with open(values["events"], "w", encoding="ascii") as file:
-            json.dump(test.events, file)
+    values = values_of(test, command, folder, suite)
     got = call(command.filled(values, test.args), files, bytes.fromhex(test.stdin or ""), seconds)
     if test.want.after is not None:
         got.after = tests.tree_of(files)
-    got.frames, got.samples = (read_or_none(values[name]) if name in values else None for name in ("frames", "samples"))
+    for name in ("frames", "picture", "samples"):
+        if name in values:
+            setattr(got, name, read_or_none(values[name]))
+    return got
+
+
+def assemble(place: str, data: bytes, files: Tree | None, command: Command, folder: str, seconds: float) -> Got:
+    """Assembles a source that lies at a place of a folder, with the files that it includes."""
+    os.makedirs(folder, exist_ok=True)
+    tests.make_tree(files or {}, folder)
+    if place not in (files or {}):
+        tests.make_tree({place: data.hex()}, folder)
+    got = call(command.filled({"source": place, "rom": ROM, "symbols": SYMBOLS}, []), folder, b"", seconds)
+    got.rom = read_or_none(os.path.join(folder, ROM))
+    got.symbols = read_or_none(os.path.join(folder, SYMBOLS))
     return got
 
 
 def run_assembler(test: Test, command: Command, folder: str, suite: str, seconds: float) -> Got:
-    """Assembles a test's source, with the files that it includes beside it."""
-    tests.make_tree(test.files or {}, folder)
-    source = os.path.join(folder, os.path.basename(test.source))
-    if not os.path.exists(source):
-        shutil.copyfile(os.path.join(suite, test.source), source)
-    values = {"source": os.path.basename(source), "rom": "made.rom", "symbols": "made.rom.sym"}
-    got = call(command.filled(values, []), folder, b"", seconds)
-    got.rom = read_or_none(os.path.join(folder, "made.rom"))
-    got.symbols = read_or_none(os.path.join(folder, "made.rom.sym"))
+    """Assembles a test's source; where it has to be refused its repaired twin too, in a folder beside."""
+    place = test.place or os.path.basename(test.source)
+    source = tests.bytes_of(suite, test.source)
+    got = assemble(place, source, test.files, command, os.path.join(folder, "refused" if test.twin else "source"), seconds)
+    if test.twin:
+        source = tests.bytes_of(suite, test.twin.source)
+        got.twin = assemble(place, source, test.twin.files, command, os.path.join(folder, "repaired"), seconds)
     return got
 
 
-def shown(data: bytes, most: int = 100) -> str:
-    """Bytes as a line shows them."""
-    text = data[:most].decode("ascii", errors="backslashreplace")
-    text = "".join(sign if sign.isprintable() else f"\\x{ord(sign):02x}" for sign in text)
-    return text + (" .." if len(data) > most else "")
-
-
-def first_difference(wanted: bytes, got: bytes) -> int:
-    for at, (a, b) in enumerate(zip(wanted, got)):
-        if a != b:
-            return at
-    return min(len(wanted), len(got))
-
-
-def line_of_source(test: Test, suite: str, wanted: bytes, number: int) -> str | None:
-    """The line of the source that a line of the output or a byte of the ROM came from, by its number from 0."""
-    lines = tests.bytes_of(suite, test.source).decode("latin-1").split("\n")
-    if test.lines == "cases":
-        rows = wanted.split(b"\n")
-        label = b"@case-" + rows[number][:4] + b" " if number < len(rows) else b"@"
-        found = [at for at, line in enumerate(lines, 1) if line.encode("latin-1").startswith(label)]
-    else:
-        found = list(test.lines[number : number + 1]) if isinstance(test.lines, list) else []
-    return (
-        f"{test.source}:{found[0]}: {lines[found[0] - 1].strip()[:160]}"
-        if found and 0 < found[0] <= len(lines)
-        else None
-    )
-
-
-def text_difference(test: Test, suite: str, name: str, wanted: bytes, got: bytes) -> list[str]:
-    """The first line of an output that differs."""
-    at = first_difference(wanted, got)
-    number = wanted.count(b"\n", 0, at)
-    rows = [text.split(b"\n")[number : number + 1] or [b""] for text in (wanted, got)]
-    said = [
-        f"{name}, line {number + 1}: wanted {shown(rows[0][0])}",
-        f"{name}, line {number + 1}: got    {shown(rows[1][0])}",
-    ]
-    where = line_of_source(test, suite, wanted, number) if name == "output" else None
-    return said + ([where] if where else [])
-
-
-def binary_difference(name: str, wanted: bytes, got: bytes | None) -> list[str]:
-    if got is None:
-        return [f"{name}: wanted {len(wanted)} bytes, got none"]
-    at = first_difference(wanted, got)
-    return [
-        f"{name}: wanted {wanted[at:at + 16].hex(' ') or 'the end'} at byte {at} of {len(wanted)}",
-        f"{name}: got    {got[at:at + 16].hex(' ') or 'the end'} at byte {at} of {len(got)}",
-    ]
-
-
-def picture_difference(wanted: bytes, got: bytes | None) -> list[str]:
-    """The first pixel that differs, where both are pictures of one size."""
-    head = re.match(rb"P6\n(\d+) (\d+)\n255\n", wanted)
-    if got is None or not head or got[: head.end()] != wanted[: head.end()]:
-        return binary_difference("pictures", wanted, got)
-    at = first_difference(wanted, got)
-    size = head.end() + 3 * int(head[1]) * int(head[2])
-    pixel = max(0, at % size - head.end()) // 3
-    start = at - (at % size - head.end()) % 3
-    return [
-        f"picture {at // size + 1}, pixel ({pixel % int(head[1])}, {pixel // int(head[1])}): "
-        f"wanted {wanted[start:start + 3].hex()}, got {got[start:start + 3].hex() or 'none'}"
-    ]
-
-
-def shown_file(data: str | None) -> str:
-    return "a folder" if data is None else shown(bytes.fromhex(data))
-
-
-def after_difference(wanted: Tree, got: Tree) -> list[str]:
-    said = []
-    for path in sorted(wanted.keys() | got.keys()):
-        if path not in got:
-            said.append(f"files: {path} is not there")
-        elif path not in wanted:
-            said.append(f"files: {path} is there, and should not be")
-        elif wanted[path] != got[path]:
-            said.append(f"files: {path}: wanted {shown_file(wanted[path])}, got {shown_file(got[path])}")
-    return said
-
-
-def emulator_differences(test: Test, command: Command, suite: str, got: Got) -> Iterator[str]:
-    want = test.want
-    for name, wanted, given in (("output", want.out, got.out), ("error output", want.err, got.err)):
-        data = tests.bytes_of(suite, wanted)
-        if wanted is not None and data != given:
-            yield from text_difference(test, suite, name, data, given)
-    if want.status is not None and want.status != got.status:
-        yield f"exit status: wanted {want.status}, got {got.status}"
-    if want.after is not None and want.after != got.after:
-        yield from after_difference(want.after, got.after)
-    if want.frames is not None and command.has("frames") and (data := tests.bytes_of(suite, want.frames)) != got.frames:
-        yield from picture_difference(data, got.frames)
-    if (
-        want.samples is not None
-        and command.has("samples")
-        and (data := tests.bytes_of(suite, want.samples)) != got.samples
-    ):
-        yield from binary_difference("samples", data, got.samples)
-
-
-def assembler_differences(test: Test, command: Command, suite: str, got: Got) -> Iterator[str]:
-    want = test.want
-    if want.refused is not None:
-        if got.status == 0 and got.rom is not None:
-            yield f"wanted a refusal, got a ROM of {len(got.rom)} bytes"
-        return
-    if got.status != 0:
-        yield f"wanted a ROM, got the status {got.status}: {shown(got.err or got.out)}"
-    elif (data := tests.bytes_of(suite, want.rom)) != got.rom:
-        yield from binary_difference("ROM", data, got.rom)
-        where = line_of_source(test, suite, b"", first_difference(data, got.rom or b""))
-        yield from [where] if where else []
-    elif command.has("symbols") and want.symbols and (data := tests.bytes_of(suite, want.symbols)) != got.symbols:
-        yield from binary_difference("symbol file", data, got.symbols)
+def run_disassembler(test: Test, command: Command, folder: str, suite: str, seconds: float) -> Got:
+    values = {"rom": os.path.join(suite, test.rom or "")}
+    if test.want.symbols:
+        values["symbols"] = os.path.join(suite, test.want.symbols)
+    return call(command.filled(values, []), folder, b"", seconds)
 
 
 def reason_not_to_run(test: Test, command: Command) -> str | None:
-    """Why a test cannot be run by a command."""
-    if test.is_of_assembler:
-        return None
-    if test.events is not None and not command.has("events"):
-        return "the command has no place {events}"
-    if test.args and not command.has("args"):
-        return "the command has no place {args}"
-    for name in ("frames", "samples"):
-        if getattr(test.want, name) is not None and not command.has(name) and not test.want.out:
-            return f"the command has no place {{{name}}}"
-    return None
+    """Why a test cannot be run by a command: it has no place for what the test needs, or for what has to be compared."""
+    needed: list[tuple[str, ...]] = []
+    if test.kind == "emulator":
+        if test.needs_events:
+            needed.append(("events", "sdl"))
+        elif any(event[0] == "clock" for event in test.events or []):
+            needed.append(("events", "clock"))
+        if test.args:
+            needed.append(("args",))
+        if test.want.frames is not None:
+            needed.append(("frames", "picture") if test.has_one_picture else ("frames",))
+        if test.want.samples is not None:
+            needed.append(("samples",))
+    elif test.kind == "disassembler" and test.want.symbols:
+        needed.append(("symbols",))
+    missing = [places for places in needed if not any(command.has(place) for place in places)]
+    return f"the command has no place {' or '.join('{' + place + '}' for place in missing[0])}" if missing else None
+
+
+def run_in(test: Test, command: Command, folder: str, suite: str, seconds: float) -> tuple[Got, list[str]]:
+    """What a run gave, and what differs."""
+    if test.kind == "assembler":
+        got = run_assembler(test, command, folder, suite, seconds)
+        return got, list(differences.of_assembler(test, suite, got, command.has("symbols")))
+    if test.kind == "disassembler":
+        got = run_disassembler(test, command, folder, suite, seconds)
+        return got, list(differences.of_disassembler(test, suite, got))
+    got = run_emulator(test, command, folder, suite, seconds)
+    return got, list(differences.of_emulator(test, suite, got, not command.has("frames")))
 
 
 def run_test(test: Test, command: Command, suite: str, seconds: float) -> Result:
@@ -286,16 +217,12 @@ def run_test(test: Test, command: Command, suite: str, seconds: float) -> Result
     why = reason_not_to_run(test, command)
     if why:
         return Result(test, NOT_RUN, [why])
+    begun = time.monotonic()
     with tempfile.TemporaryDirectory(prefix="conform-") as folder:
-        if test.is_of_assembler:
-            got = run_assembler(test, command, folder, suite, seconds)
-            said = list(assembler_differences(test, command, suite, got))
-        else:
-            got = run_emulator(test, command, folder, suite, seconds)
-            said = list(emulator_differences(test, command, suite, got))
-    if got.status is None:
+        got, said = run_in(test, command, folder, suite, seconds)
+    if got.status is None or got.twin and got.twin.status is None:
         said.insert(0, f"it did not end within {seconds:g} seconds")
-    return Result(test, FAILED if said else PASSED, said)
+    return Result(test, FAILED if said else PASSED, said, time.monotonic() - begun, got if said else None)
 
 
 def run_all(

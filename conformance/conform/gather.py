@@ -7,11 +7,12 @@ import json
 import os
 from typing import Any
 
-from conform import cases, from_cases
+from conform import cases, from_cases, language, scripts
 from conform.drafts import Draft
 from conform.instructions import MODES, NAMES, name_of, modes_of
 from conform.tests import TOP, Tree, tree_of
-from uxntools.cli import Failure
+from conform.tests import driver as tests_driver
+from conform.cli import Failure
 
 SOURCES = os.path.join(TOP, "sources")
 
@@ -22,7 +23,7 @@ def text_of(name: str) -> str:
 
 
 def processor_draft(name: str, shows: str, reference: str, chosen: list[cases.Case], with_memory: bool) -> Draft:
-    source = cases.source_of(chosen, text_of("driver.tal"), shows, with_memory)
+    source = cases.source_of(chosen, tests_driver(), shows, with_memory)
     return Draft(f"processor/{name}", shows, reference, "processor", source.encode(), ["console"], by_cases=True)
 
 
@@ -71,6 +72,7 @@ def ruled(draft: Draft, rule: dict[str, Any]) -> Draft:
     draft.level, draft.reference = rule["level"], rule["reference"]
     draft.devices, draft.profile = list(rule.get("devices", [])), rule.get("profile", False)
     draft.takes += tuple(rule.get("takes", ()))
+    draft.endless = rule.get("endless")
     if "frames" in draft.takes and "screen" not in draft.devices:
         draft.devices.append("screen")
     if "datetime" in draft.devices and ["clock"] not in [event[:1] for event in draft.events or []]:
@@ -82,7 +84,7 @@ def ruled(draft: Draft, rule: dict[str, Any]) -> Draft:
         and "screen" not in draft.devices
         and "audio" not in draft.devices
     ):
-        draft.stdin, draft.events = stdin, None
+        draft.case_events, draft.stdin, draft.events = draft.events or [], stdin, None
     return draft
 
 
@@ -101,8 +103,16 @@ def case_drafts() -> list[Draft]:
                 f"{rule['level']}/{word}", path
             )
             if draft:
-                drafts.append(ruled(draft, rule))
+                drafts.append(with_twin(ruled(draft, rule)))
     return drafts
+
+
+def with_twin(draft: Draft) -> Draft:
+    """The draft with the repaired source that sources/twins.json has for it, if there is one."""
+    found = json.loads(text_of("twins.json")).get(draft.name)
+    if found:
+        draft.twin, draft.twin_files = found.get("source"), found.get("files")
+    return draft
 
 
 def read_beside(folder: str, path: str) -> bytes:
@@ -141,11 +151,16 @@ def stored_draft(item: dict[str, Any], folder: str) -> Draft:
         stdin,
         item.get("events"),
         tuple(item.get("takes", ())),
+        place=item.get("place"),
+        twin=item.get("twin"),
+        twin_files=item.get("twin-files"),
+        names=item.get("names"),
+        endless=item.get("endless"),
     )
     if "behind" in item:
         draft.behind_rom = read_beside(folder, item["behind"])
     if "script" in item:
-        draft.args, events = from_cases.events_of(read_beside(folder, item["script"])) or ([], [])
+        draft.args, events = scripts.events_of(read_beside(folder, item["script"])) or ([], [])
         typed = stdin_of(events)
         draft.stdin, draft.events = (draft.stdin, events) if typed is None else (typed, None)
     return draft
@@ -164,7 +179,7 @@ def stored_drafts() -> list[Draft]:
 
 
 def all_drafts() -> list[Draft]:
-    drafts = processor_drafts() + case_drafts() + stored_drafts()
+    drafts = processor_drafts() + case_drafts() + stored_drafts() + language.drafts()
     names = [draft.name for draft in drafts]
     twice = {name for name in names if names.count(name) > 1}
     if twice:

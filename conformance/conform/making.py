@@ -1,69 +1,36 @@
 """Makes the tests of the suite: assembles, runs and keeps what comes out, on which two programs have to agree."""
 from __future__ import annotations
 
-import filecmp
 import os
 import re
-import subprocess
-import sys
 import tempfile
 from collections.abc import Iterator
 from concurrent.futures import ThreadPoolExecutor
-from dataclasses import dataclass
+from dataclasses import dataclass, replace
 
-from conform import execute, tests
+from conform import differences, execute, from_cases, tests, twins
+from conform.cli import Failure
+from conform.differences import Got
 from conform.drafts import Draft
-from conform.execute import Command, Got
-from conform.tests import Test
-from uxntools.cli import Failure
+from conform.execute import Command
+from conform.second import SECONDS, Tools, second_command, uxn_command, write_file
+from conform.tests import PROFILE_KINDS, Test, Tree, Twin
 
-SECONDS = 60
-# Faults of an assembler on which the public reference says nothing.
-PROFILE_KINDS = (
-    "LongSource LongWord MacroDeep ManyWords StrayParen IncludePath IncludeDeep IncludeMany IncludeLong "
-    "IncludeLongText"
-).split()
 LARGEST = 60_000
 # Up to how many bytes a ROM has the line of each.
 LONGEST_LINES = 600
 
 
-@dataclass(frozen=True)
-class Tools:
-    """The programs that make the suite."""
-
-    uxn: str
-    emulator: Command
-    assembler: Command
-    folder: str
+def source_place(draft: Draft) -> str:
+    return draft.place or f"{draft.name.split('/')[1]}.tal"
 
 
-def second_command(path: str) -> Command:
-    return Command((path, "--events", "{events}", "--frames", "{frames}", "--samples", "{samples}", "{rom}", "{args}"))
-
-
-def uxn_command() -> Command:
-    return Command((os.path.join(tests.TOP, "adapters", "uxn"), "{rom}", "{events}", "{frames}", "{samples}", "{args}"))
-
-
-def second_assembler(path: str) -> Command:
-    return Command((sys.executable, "-IS", path, "{source}", "{rom}", "{symbols}"))
-
-
-def write_file(folder: str, name: str, data: bytes) -> str:
-    path = os.path.join(folder, name)
-    os.makedirs(os.path.dirname(path), exist_ok=True)
-    with open(path, "wb") as file:
-        file.write(data)
-    return name
-
-
-def assembled(draft: Draft, tools: Tools) -> tuple[Got, bytes]:
-    """What `uxn asm` gives for a source: the ROM and the symbols, or a refusal; and the listing."""
+def assembled_files(files: dict[str, bytes], folders: Tree, source: str, tools: Tools) -> tuple[Got, bytes]:
+    """What `uxn asm` gives for a source among files: the ROM and the symbols, or a refusal; and the listing."""
     with tempfile.TemporaryDirectory(dir=tools.folder) as folder:
-        files = draft.files or {} if draft.level in ("assembler", "programs") else {}
-        source = f"{draft.name.split('/')[1]}.tal"
-        tests.make_tree({source: draft.source.hex(), **files}, folder)
+        tests.make_tree(folders, folder)
+        for path, data in files.items():
+            write_file(folder, path, data)
         words = [tools.uxn, "asm", source, "--out", "made.rom", "--symbols", "made.rom.sym", "--listing", "made.lst"]
         got = execute.call(words, folder, b"", SECONDS)
         got.rom = execute.read_or_none(os.path.join(folder, "made.rom"))
@@ -72,18 +39,64 @@ def assembled(draft: Draft, tools: Tools) -> tuple[Got, bytes]:
     return got, listing
 
 
+def outcome_of(files: dict[str, bytes], folders: Tree, source: str, tools: Tools) -> Got:
+    """The same without the listing; files that no folder can hold are a fault."""
+    try:
+        return assembled_files(files, folders, source, tools)[0]
+    except (OSError, ValueError):
+        return Got(1)
+
+
+def files_of(draft: Draft) -> tuple[dict[str, bytes], Tree]:
+    """The files that a source is assembled with, itself among them, and the folders beside."""
+    tree = (draft.files or {}) if draft.level in ("assembler", "programs") else {}
+    files = {path: tests.unpacked(data) for path, data in tree.items() if data is not None}
+    return {source_place(draft): draft.source, **files}, {path: None for path, data in tree.items() if data is None}
+
+
+def assembled(draft: Draft, tools: Tools) -> tuple[Got, bytes]:
+    files, folders = files_of(draft)
+    return assembled_files(files, folders, source_place(draft), tools)
+
+
+def packed_tree(files: dict[str, bytes], draft: Draft) -> Tree | None:
+    """Files as the manifest has them; a long one that the draft has stays as short as there."""
+    given = draft.files or {}
+    found = {path: None for path, data in given.items() if data is None}
+    for path, data in files.items():
+        if path == source_place(draft) and len(data) <= LARGEST:
+            continue
+        text = given.get(path)
+        byte = data[:1] if data and data == data[:1] * len(data) else b""
+        found[path] = text if text and tests.unpacked(text) == data else f"{byte.hex()}*{len(data)}" if byte else data.hex()
+    return dict(sorted(found.items())) or None
+
+
+def make_twin(draft: Draft, tools: Tools, suite: str) -> Twin:
+    """The repaired source of a refused one: that of the draft, or one that is found."""
+    files, folders = files_of(draft)
+    source = source_place(draft)
+    if draft.twin is not None or draft.twin_files is not None:
+        files.update({path: tests.unpacked(data or "") for path, data in (draft.twin_files or {}).items()})
+        files[source] = draft.twin.encode("latin-1") if draft.twin is not None else files[source]
+        found = (files, assembled_files(files, folders, source, tools)[0])
+    else:
+        found = twins.repaired(files, source, lambda files: outcome_of(files, folders, source, tools))
+    if found is None or found[1].status != 0:
+        raise Failure(f"{draft.name}: no repair of it assembles: give it a `twin`")
+    tree = packed_tree(found[0], draft)
+    data = b"" if source in (tree or {}) else found[0][source]
+    name = f"{draft.name}.repaired"
+    return Twin(write_file(suite, f"{name}.tal", data), write_file(suite, f"{name}.rom", found[1].rom or b""), tree)
+
+
 def make_assembler_test(draft: Draft, tools: Tools, suite: str) -> Test:
-    """A source with its ROM and its symbol file, or the kind of its fault."""
+    """A source with its ROM and its symbol file, or the fault for which it is refused."""
     got, listing = assembled(draft, tools)
-    test = Test(
-        draft.name,
-        draft.shows,
-        draft.reference,
-        draft.level,
-        f"{draft.name}.tal",
-        profile=draft.profile,
-        files=draft.files,
-    )
+    if draft.case and (said := from_cases.faults_of_source(draft.case, got)):
+        raise Failure(f"{draft.name} differs from its case: {said[0]}")
+    test = Test(draft.name, draft.shows, draft.reference, draft.level, f"{draft.name}.tal", profile=draft.profile)
+    test.files, test.place = draft.files, draft.place
     # That these opcodes may be written as words is a choice of this project.
     test.profile = test.profile or re.search(rb"(?<!\S)J[CMS]I(?!\S)", draft.source) is not None
     write_file(suite, test.source, draft.source)
@@ -92,12 +105,14 @@ def make_assembler_test(draft: Draft, tools: Tools, suite: str) -> Test:
         test.want.symbols = write_file(suite, f"{draft.name}.sym", got.symbols or b"")
         # The listing of a source with includes counts words in place of lines.
         test.lines = None if draft.files else lines_of_rom(got.rom or b"", listing)
-    else:
-        found = re.match(rb"source (?:\S+ )?\d+:\d+: (\w+): ", got.err)
-        if got.status != 131 or not found:
-            raise Failure(f"{draft.name}: uxn asm ended with {got.status}: {got.err!r}")
-        test.want.refused = found[1].decode()
-        test.profile = test.profile or test.want.refused in PROFILE_KINDS
+        return test
+    kind = from_cases.kind_of(got.err)
+    if got.status != 131 or not kind:
+        raise Failure(f"{draft.name}: uxn asm ended with {got.status}: {got.err!r}")
+    test.want.refused, test.want.names = kind, draft.names
+    test.want.fault = differences.FAULT.search(got.err.decode(errors="backslashreplace"))[1]
+    test.profile = test.profile or kind in PROFILE_KINDS
+    test.twin = make_twin(draft, tools, suite)
     return test
 
 
@@ -134,12 +149,13 @@ def lines_of_output(out: bytes, trace: bytes, listing: bytes) -> list[int]:
     return lines
 
 
-def traced(test: Test, tools: Tools, suite: str, listing: bytes, out: bytes) -> list[int]:
+def trace_of(test: Test, tools: Tools, suite: str) -> bytes:
+    """What the second emulator notes of a run."""
     with tempfile.TemporaryDirectory(dir=tools.folder) as folder:
         path = os.path.join(folder, "trace")
         command = Command((tools.emulator.words[0], "--trace", path, *tools.emulator.words[1:]))
         execute.run_emulator(test, command, folder, suite, SECONDS)
-        return lines_of_output(out, execute.read_or_none(path) or b"", listing)
+        return execute.read_or_none(path) or b""
 
 
 def run_with(test: Test, command: Command, tools: Tools, suite: str) -> Got:
@@ -164,94 +180,175 @@ def keep_outputs(test: Test, draft: Draft, got: Got, suite: str) -> None:
         test.want.samples = write_file(suite, f"{draft.name}.raw", got.samples or b"")
 
 
-def make_emulator_test(draft: Draft, tools: Tools, suite: str) -> Test | None:
-    """A ROM with what comes out of its run; none where a picture or samples would be too large for the suite."""
-    got, listing = assembled(draft, tools)
-    if got.status != 0:
-        raise Failure(f"{draft.name}: uxn asm ended with {got.status}: {got.err!r}")
-    rom = (got.rom or b"").ljust(0xFF00, b"\0") + draft.behind_rom if draft.behind_rom else got.rom or b""
-    files = draft.files
-    test = Test(
-        draft.name,
-        draft.shows,
-        draft.reference,
-        draft.level,
-        f"{draft.name}.tal",
-        draft.devices,
-        draft.profile,
-        f"{draft.name}.rom",
-        files,
-        draft.args,
-        draft.stdin.hex() or None,
-        draft.events,
-    )
+def begun_test(draft: Draft, rom: bytes, suite: str) -> Test:
+    """A test with its ROM, before it is known what comes out of its run."""
+    test = Test(draft.name, draft.shows, draft.reference, draft.level, f"{draft.name}.tal", draft.devices, draft.profile)
+    test.rom, test.files, test.args, test.events = f"{draft.name}.rom", draft.files, draft.args, draft.events
+    test.stdin = draft.stdin.hex() or None
     write_file(suite, test.source, draft.source)
-    write_file(suite, f"{draft.name}.rom", rom)
+    write_file(suite, test.rom, rom.ljust(0xFF00, b"\0") + draft.behind_rom if draft.behind_rom else rom)
     for name in ("frames", "samples"):
         if name in draft.takes:
             setattr(test.want, name, "-")
     test.want.after = {} if "after" in draft.takes else None
+    return test
+
+
+@dataclass
+class Run:
+    """A draft that was run: its test, what came out, and what its source and its run noted."""
+
+    draft: Draft
+    test: Test
+    got: Got
+    listing: bytes
+    trace: bytes
+
+    @property
+    def is_ended(self) -> bool:
+        """Whether the program wrote the state."""
+        return re.search(rb"(?m)^w [0-9a-f]{4} 0f$", self.trace) is not None
+
+    def gives(self) -> tuple[object, ...]:
+        got = self.got
+        return got.status, got.out, got.err, got.after, got.frames, got.samples
+
+
+def run_draft(draft: Draft, tools: Tools, suite: str) -> Run:
+    got, listing = assembled(draft, tools)
+    if got.status != 0:
+        raise Failure(f"{draft.name}: uxn asm ended with {got.status}: {got.err!r}")
+    test = begun_test(draft, got.rom or b"", suite)
     outcome = run_with(test, uxn_command(), tools, suite)
+    return Run(draft, test, outcome, listing, trace_of(test, tools, suite))
+
+
+def with_end(run: Run, tools: Tools, suite: str) -> Run | None:
+    """The run of a program that ends itself where its reset vector ended, if that gives the same."""
+    first = re.search(rb"(?m)^x ([0-9a-f]{4}) 00$", run.trace)
+    row = first and re.search(rb"(?m)^" + first[1] + rb" 00  (\d+):(\d+) BRK$", run.listing)
+    if not row:
+        return None
+    lines = run.draft.source.split(b"\n")
+    line, column = int(row[1]) - 1, int(row[2]) - 1
+    if line >= len(lines) or lines[line][column : column + 3] != b"BRK":
+        return None
+    lines[line] = lines[line][:column] + b"#800f DEO " + lines[line][column:]
+    try:
+        other = run_draft(replace(run.draft, source=b"\n".join(lines)), tools, suite)
+    except Failure:
+        return None
+    return other if other.is_ended and other.gives() == run.gives() else None
+
+
+def reason_of(draft: Draft, test: Test) -> str | None:
+    """Why a program need not end itself."""
+    if draft.endless:
+        return draft.endless
+    if test.events is not None:
+        return "the last event ends the run"
+    return "the end of the arguments and the input ends the run" if test.stdin or test.args else None
+
+
+def check_case(draft: Draft, tools: Tools, suite: str) -> None:
+    """Refuses a draft that gives, with the events of its case, something else than its case says."""
+    if draft.case is None:
+        return
+    events = draft.events if draft.case_events is None else draft.case_events
+    stdin = b"" if draft.case_events is not None else draft.stdin
+    got = run_draft(replace(draft, events=events, stdin=stdin), tools, suite).got
+    said = from_cases.faults_of_run(draft.case, got, draft.takes)
+    if said:
+        raise Failure(f"{draft.name} differs from its case: {said[0]}")
+
+
+def ended(draft: Draft, tools: Tools, suite: str) -> Run:
+    """The run of a draft whose program ends itself, or says why not."""
+    check_case(draft, tools, suite)
+    run = run_draft(draft, tools, suite)
+    if run.is_ended:
+        return run
+    found = with_end(run, tools, suite)
+    if found is None:
+        found = run_draft(draft, tools, suite)
+        found.test.endless = reason_of(draft, found.test)
+        if found.test.endless is None:
+            raise Failure(f"{draft.name}: the program does not reach #80 #0f DEO: give it `endless`, a reason")
+    return found
+
+
+def make_emulator_test(draft: Draft, tools: Tools, suite: str) -> Test | None:
+    """A ROM with what comes out of its run; none where a picture or samples would be too large for the suite."""
+    run = ended(draft, tools, suite)
+    test, outcome = run.test, run.got
     if max(len(outcome.frames or b""), len(outcome.samples or b"")) > LARGEST and draft.level != "programs":
-        os.remove(os.path.join(suite, test.source))
-        os.remove(os.path.join(suite, f"{draft.name}.rom"))
+        for name in (test.source, test.rom):
+            os.remove(os.path.join(suite, name or ""))
         return None
     keep_outputs(test, draft, outcome, suite)
-    test.lines = "cases" if draft.by_cases else traced(test, tools, suite, listing, outcome.out) or None
+    test.lines = "cases" if draft.by_cases else lines_of_output(outcome.out, run.trace, run.listing) or None
+    return test
+
+
+def make_disassembler_test(draft: Draft, tools: Tools, suite: str) -> Test:
+    """A ROM with its text, which the second assembler has to make the ROM of again."""
+    got, _ = assembled(draft, tools)
+    test = Test(draft.name, draft.shows, draft.reference, draft.level, f"{draft.name}.tal", profile=True)
+    write_file(suite, test.source, draft.source)
+    rom = draft.behind_rom or got.rom or b""
+    test.rom = write_file(suite, f"{draft.name}.rom", rom)
+    words = [tools.uxn, "dis", os.path.basename(test.rom)]
+    folder = os.path.join(suite, os.path.dirname(test.rom))
+    if "symbols" in draft.takes:
+        test.want.symbols = write_file(suite, f"{draft.name}.sym", got.symbols or b"")
+        words += ["--symbols", os.path.basename(test.want.symbols)]
+    said = execute.call(words, folder, b"", SECONDS)
+    if said.status != 0:
+        raise Failure(f"{draft.name}: uxn dis ended with {said.status}: {said.err!r}")
+    test.want.text = write_file(suite, f"{draft.name}.txt", said.out)
     return test
 
 
 def make_test(draft: Draft, tools: Tools, suite: str) -> Test | None:
     if draft.level == "assembler":
         return make_assembler_test(draft, tools, suite)
+    if draft.level == "disassembler":
+        return make_disassembler_test(draft, tools, suite)
     return make_emulator_test(draft, tools, suite)
+
+
+def text_disagreement(test: Test, tools: Tools, suite: str) -> list[str]:
+    """Whether the text of a disassembly is not that of its ROM by the second assembler."""
+    with tempfile.TemporaryDirectory(dir=tools.folder) as folder:
+        source = tests.bytes_of(suite, test.want.text)
+        got = execute.assemble("text.tal", source, None, tools.assembler, folder, SECONDS)
+    wanted = tests.bytes_of(suite, test.rom).rstrip(b"\0")
+    return [f"{test.name}: the second assembler makes another ROM of the text: {got.err!r}"] if got.rom != wanted else []
 
 
 def disagreement(test: Test, tools: Tools, suite: str) -> list[str]:
     """What the second emulator or assembler gives otherwise."""
-    if test.is_of_assembler and test.profile:
+    if test.kind == "disassembler":
+        return text_disagreement(test, tools, suite)
+    # The second assembler goes once through the words, so it reports another of two faults.
+    if test.is_of_assembler and (test.want.refused in PROFILE_KINDS or test.want.names):
         return []
     command = tools.assembler if test.is_of_assembler else tools.emulator
     result = execute.run_test(test, command, suite, SECONDS)
-    return (
-        []
-        if result.state != execute.FAILED
-        else [f"{test.name}: the second program differs", *("    " + line for line in result.said)]
-    )
+    if result.state != execute.FAILED:
+        return []
+    return [f"{test.name}: the second program differs", *("    " + line for line in result.said)]
 
 
-def make_all(drafts: list[Draft], tools: Tools, suite: str, jobs: int) -> Iterator[tuple[Test, list[str]]]:
-    """Makes each test, and says what the second program gives otherwise."""
+def make_all(drafts: list[Draft], tools: Tools, suite: str, jobs: int) -> Iterator[tuple[Test | None, list[str]]]:
+    """Makes each test, and says what is wrong with it: it differs from its case, or the second program gives something else."""
 
-    def make(draft: Draft) -> tuple[Test, list[str]] | None:
-        test = make_test(draft, tools, suite)
-        return (test, disagreement(test, tools, suite)) if test else None
+    def make(draft: Draft) -> tuple[Test | None, list[str]]:
+        try:
+            test = make_test(draft, tools, suite)
+        except Failure as failure:
+            return None, [failure.line]
+        return test, disagreement(test, tools, suite) if test else []
 
     with ThreadPoolExecutor(jobs) as pool:
-        yield from (made for made in pool.map(make, drafts) if made)
-
-
-def gcc(*words: str) -> None:
-    try:
-        done = subprocess.run(["gcc", "-O2", *words], capture_output=True, text=True, check=False)
-    except FileNotFoundError:
-        raise Failure("there is no gcc, which builds the second emulator", 2) from None
-    if done.returncode:
-        raise Failure(f"gcc: {(done.stderr.strip().splitlines() or ['it failed'])[0]}")
-
-
-def build_second(folder: str, sources: str | None = None, built: str | None = None) -> str:
-    """Builds the second emulator into a folder; files that are not changed are taken as they were built."""
-    original = os.path.join(tests.TOP, "second")
-    sources = sources or original
-    objects = []
-    for name in sorted(name for name in os.listdir(sources) if name.endswith(".c")):
-        source = os.path.join(sources, name)
-        done = os.path.join(built, name + ".o") if built else ""
-        if not done or not filecmp.cmp(source, os.path.join(original, name), shallow=False):
-            done = os.path.join(folder, name + ".o")
-            gcc("-c", "-o", done, source)
-        objects.append(done)
-    path = os.path.join(folder, "second")
-    gcc("-o", path, *objects)
-    return path
+        yield from pool.map(make, drafts)

@@ -256,10 +256,11 @@ def file_piece(rng: random.Random) -> str:
     shown = show(base + 2, base + 3)
     return rng.choice(
         (
-            lambda: join(f";name-{rng.randrange(3)} #{base + 8:02x} DEO2", shown),
+            lambda: join(f";name-{rng.randrange(6)} #{base + 8:02x} DEO2", shown),
             lambda: join(length, f";area #{base + 12:02x} DEO2", shown, "dump"),
             lambda: join(length, f";text #{base + 14:02x} DEO2", shown),
             lambda: write1(base + 7, rng.randrange(2)),
+            lambda: join(length, f";area #{base + 4:02x} DEO2", "dump"),
         )
     )()
 
@@ -268,18 +269,19 @@ def files(rng: random.Random) -> Program:
     def build(pieces: Pieces) -> str:
         dump = "@dump ;area &loop LDAk byte INC2 DUP2 ;end NEQ2 ?&loop POP2 #0a18 DEO JMP2r\n"
         body = "\n".join("    " + piece for piece in pieces)
-        names = '@name-0 "one 00 @name-1 "two.txt 00 @name-2 "three 00 @text "abcdefghijklmnop\n'
+        names = '@name-0 "one 00 @name-1 "two.txt 00 @name-2 "three 00 @name-3 "in/a-file 00\n'
+        names += f'@name-4 "{"long-" * 12}name.bin 00 @name-5 "none/file 00 @text "abcdefghijklmnop\n'
         return f"|0100\n{body}\n    #800f DEO BRK\n{dump}{PRINT}{names}|0800 @area $10 @end\n"
 
     # A name comes first, and each device has one before anything else is done.
-    pieces = [f";name-{rng.randrange(3)} #{base + 8:02x} DEO2" for base in (0xA0, 0xB0)] + [
+    pieces = [f";name-{rng.randrange(6)} #{base + 8:02x} DEO2" for base in (0xA0, 0xB0)] + [
         file_piece(rng) for _ in range(16)
     ]
     return Program(
         "files",
         build,
         pieces,
-        files={"one": "31", "two.txt": "74776f2062797465730a"},
+        files={"one": "31", "two.txt": "74776f2062797465730a", "in": None, "in/a-file": "6162636465666768"},
         devices=["file", "console"],
         takes=("after",),
     )
@@ -366,7 +368,53 @@ def whole(rng: random.Random) -> Program:
     return Program("programs", build, calls + [routine(rng, index) for index in range(count)])
 
 
-KINDS = ("instructions", "instructions", "programs", "system", "screen", "files", "inputs")
+def clock_piece(rng: random.Random) -> str:
+    return show(*rng.sample(range(0xC0, 0xCB), rng.randrange(1, 11)))
+
+
+def clock(rng: random.Random) -> Program:
+    """Ports of date and time, at the start and at frames; the clock is set once."""
+
+    def build(pieces: Pieces) -> str:
+        body = "\n".join("    " + piece for piece in pieces)
+        frame = f"@on-frame {show(*range(0xC0, 0xCB))} BRK\n"
+        return f"|0100 ;on-frame #20 DEO2\n{body}\n    BRK\n{frame}{PRINT}"
+
+    seconds = rng.choice((rng.randrange(2**31), rng.randrange(253_370_000_000), 951_782_399, 1_709_251_199, 4_107_542_399, 0))
+    events: list[Event] = [["clock", seconds, rng.choice((0, 0, rng.randrange(-840, 841)))]]
+    events += [["frame"]] * rng.choice((1, 59, 60, 61, 130))
+    pieces = [clock_piece(rng) for _ in range(4)]
+    return Program("clock", build, pieces, events, devices=["datetime", "screen", "console"])
+
+
+def note_piece(rng: random.Random) -> str:
+    """A note of a voice, with all that its ports say."""
+    base = 0x30 + 16 * rng.randrange(4)
+    return join(
+        write2(base + 8, rng.choice((0, rng.randrange(65536), rng.randrange(16) << 12 | rng.randrange(16)))),
+        write2(base + 10, rng.choice((1, 2, 8, 255, 256, 257, rng.randrange(1024)))),
+        write2(base + 12, rng.choice((0x0100, 0xFFF0, rng.randrange(65536)))),
+        write1(base + 14, rng.randrange(256)),
+        write1(base + 15, rng.choice((rng.randrange(108), rng.randrange(128), 0x80 | rng.randrange(128)))),
+        show(base + 2, base + 3, base + 4),
+    )
+
+
+def sound(rng: random.Random) -> Program:
+    """Notes at the start and at frames, whose samples are compared."""
+
+    def build(pieces: Pieces) -> str:
+        frame = f"@on-frame {show(0x32, 0x33, 0x34, 0x42, 0x43, 0x44, 0x52, 0x54, 0x62, 0x64)} BRK\n"
+        vectors = "".join(f"@on-{voice} LIT \"{voice} #18 DEO BRK\n" for voice in range(4))
+        begin = " ".join(f";on-{voice} #{0x30 + 16 * voice:02x} DEO2" for voice in range(4))
+        return f"|0100 ;on-frame #20 DEO2 {begin}\n" + "\n".join("    " + piece for piece in pieces) + f"\n    BRK\n{frame}{vectors}{PRINT}"
+
+    events: list[Event] = [["frame"]] * rng.randrange(1, 8)
+    pieces = [note_piece(rng) for _ in range(rng.randrange(1, 6))]
+    return Program("sound", build, pieces, events, devices=["audio", "screen", "console"], takes=("samples",))
+
+
+KINDS = ("instructions", "instructions", "programs", "system", "screen", "files", "inputs", "clock", "sound")
 
 
 def random_program(kind: str, rng: random.Random, driver: str, profile: bool) -> Program:
@@ -374,4 +422,5 @@ def random_program(kind: str, rng: random.Random, driver: str, profile: bool) ->
         return instructions(rng, driver)
     if kind == "screen":
         return screen(rng, profile)
-    return {"programs": whole, "system": system, "files": files, "inputs": inputs}[kind](rng)
+    makers = {"programs": whole, "system": system, "files": files, "inputs": inputs, "clock": clock, "sound": sound}
+    return makers[kind](rng)

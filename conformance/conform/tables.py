@@ -53,7 +53,8 @@ def junit(results: Iterable[Result]) -> str:
             continue
         states = Counter(result.state for result in group)
         parts.append(
-            f'<testsuite name="{level}" tests="{len(group)}" failures="{states[FAILED]}" skipped="{states[NOT_RUN]}">'
+            f'<testsuite name="{level}" tests="{len(group)}" failures="{states[FAILED]}" skipped="{states[NOT_RUN]}" '
+            f'time="{sum(result.seconds for result in group):.3f}">'
         )
         parts += [junit_case(result) for result in group]
         parts.append("</testsuite>")
@@ -61,7 +62,7 @@ def junit(results: Iterable[Result]) -> str:
 
 
 def junit_case(result: Result) -> str:
-    head = f"<testcase classname={quoteattr(result.test.level)} name={quoteattr(result.test.name)}"
+    head = f'<testcase classname={quoteattr(result.test.level)} name={quoteattr(result.test.name)} time="{result.seconds:.3f}"'
     if result.state == PASSED:
         return head + "/>"
     if result.state == NOT_RUN:

@@ -6,7 +6,7 @@ import os
 from dataclasses import asdict, dataclass, field
 from typing import Any
 
-from uxntools.cli import Failure
+from conform.cli import Failure
 
 TOP = os.path.dirname(os.path.dirname(os.path.realpath(__file__)))
 SUITE = os.path.join(TOP, "suite")
@@ -20,9 +20,15 @@ LEVELS = (
     "files",
     "datetime",
     "assembler",
+    "disassembler",
     "programs",
 )
 DEVICES = ("system", "console", "screen", "audio", "controller", "mouse", "file", "datetime")
+# Faults of an assembler on which the public reference says nothing.
+PROFILE_KINDS = (
+    "LongSource LongWord MacroDeep ManyWords StrayParen IncludePath IncludeDeep IncludeMany IncludeLong "
+    "IncludeLongText"
+).split()
 # The files of a folder: the bytes of each in hexadecimal, perhaps with how often they stand there (`20*1000`); None
 # for a folder.
 Tree = dict[str, str | None]
@@ -42,7 +48,22 @@ class Want:
     samples: str | None = None
     rom: str | None = None
     symbols: str | None = None
+    # The text that a disassembler prints.
+    text: str | None = None
+    # Of a source that is refused: the kind of its fault, and what `uxn` says of it: the place, the kind and the word.
     refused: str | None = None
+    fault: str | None = None
+    # The word that the error output has to name.
+    names: str | None = None
+
+
+@dataclass
+class Twin:
+    """A refused source with its fault repaired: it has to assemble, so that no refusal of all sources passes."""
+
+    source: str
+    rom: str
+    files: Tree | None = None
 
 
 @dataclass
@@ -62,15 +83,39 @@ class Test:
     stdin: str | None = None
     events: list[Event] | None = None
     lines: str | list[int] | None = None
+    # The path of a source in the folder of its run, where that is not the name of its file.
+    place: str | None = None
+    twin: Twin | None = None
+    # Why a program does not end itself by a write of the state.
+    endless: str | None = None
     want: Want = field(default_factory=Want)
 
     @property
+    def kind(self) -> str:
+        """What runs the test."""
+        return self.level if self.level in ("assembler", "disassembler") else "emulator"
+
+    @property
     def is_of_assembler(self) -> bool:
-        return self.level == "assembler"
+        return self.kind == "assembler"
+
+    @property
+    def has_one_picture(self) -> bool:
+        """Whether its only picture is that of the end."""
+        events = self.events or []
+        return bool(events) and events[-1] == ["shot"] and events.count(["shot"]) == 1
+
+    @property
+    def needs_events(self) -> bool:
+        """Whether it has events beside the clock at the start and the picture at the end."""
+        rest = [event for event in self.events or [] if event[0] != "clock"]
+        return bool(rest[:-1] if self.has_one_picture else rest)
 
 
 def test_of(item: dict[str, Any]) -> Test:
     values: dict[str, Any] = {**item, "want": Want(**item["want"])}
+    if "twin" in item:
+        values["twin"] = Twin(**item["twin"])
     return Test(**values)
 
 
@@ -79,10 +124,24 @@ def as_item(test: Test) -> dict[str, Any]:
     item = {
         name: value
         for name, value in asdict(test).items()
-        if value not in (None, "") and (value != [] or name == "events")
+        if value not in (None, "", False) and (value != [] or name == "events")
     }
-    item["want"] = {name: value for name, value in item["want"].items() if value is not None}
+    for name in ("want", "twin"):
+        if name in item:
+            item[name] = {key: value for key, value in item[name].items() if value is not None}
     return item
+
+
+def driver() -> str:
+    """The source that runs the cases of the processor's tests."""
+    with open(os.path.join(TOP, "sources", "driver.tal"), encoding="utf-8") as file:
+        return file.read()
+
+
+def version() -> str:
+    """The version of the suite."""
+    with open(os.path.join(TOP, "VERSION"), encoding="ascii") as file:
+        return file.read().strip()
 
 
 def read(folder: str = SUITE) -> list[Test]:
@@ -102,7 +161,7 @@ def write(tests: list[Test], folder: str) -> None:
     """Writes the manifest: a test a line, so that a change shows which."""
     lines = ",\n".join(json.dumps(as_item(test), ensure_ascii=False) for test in tests)
     with open(os.path.join(folder, "manifest.json"), "w", encoding="utf-8") as file:
-        file.write('{"tests": [\n' + lines + "\n]}\n")
+        file.write(f'{{"version": "{version()}", "tests": [\n{lines}\n]}}\n')
 
 
 def bytes_of(folder: str, name: str | None) -> bytes:
@@ -126,6 +185,16 @@ def tree_of(folder: str) -> Tree:
     return dict(sorted(found.items()))
 
 
+def text_of_events(events: list[Event]) -> str:
+    return json.dumps(events)
+
+
+def unpacked(data: str) -> bytes:
+    """The bytes of a file of a tree."""
+    digits, _, count = data.partition("*")
+    return bytes.fromhex(digits) * int(count or 1)
+
+
 def make_tree(tree: Tree, folder: str) -> None:
     """Puts files and folders into a folder."""
     for path, data in tree.items():
@@ -133,5 +202,4 @@ def make_tree(tree: Tree, folder: str) -> None:
         os.makedirs(os.path.dirname(place) if data is not None else place, exist_ok=True)
         if data is not None:
             with open(place, "wb") as file:
-                digits, _, count = data.partition("*")
-                file.write(bytes.fromhex(digits) * int(count or 1))
+                file.write(unpacked(data))
