@@ -20,7 +20,7 @@ use Rattle.text_lines.specs.Numbers.{is_digit, is_number, number_within, integer
 use Rattle.text_lines.proofs.Numerals.{own}
 use Rattle.play_script.specs.PlainText.{text_word, name_in, value_word}
 use Rattle.text_lines.specs.ScriptValues.{text_of_values}
-use Rattle.text_lines.specs.declared.values.TheConstants.{BUTTONS, MOUSE_BUTTONS}
+use Rattle.text_lines.specs.ScriptRows.{buttons, mouse_buttons}
 use borrow.Author.Differences.{le_out, neg_is}
 
 -- a word has bytes, and none that parts words or lines
@@ -125,11 +125,11 @@ byte_back byte small = rw (decode_sized-encode_lower (byte ∷ []) 1 refl (are_b
 abbrev pub IsScriptRead : Named ℕ → ℕ → Type 0
 IsScriptRead table mask = (value_named table (name_in table mask) ≡ Some mask) × (is_plain (name_in table mask) ≡ true)
 
-pub button_back : (mask : ℕ) → IsBit mask → IsScriptRead BUTTONS mask
+pub button_back : (mask : ℕ) → IsBit mask → IsScriptRead buttons mask
 unfolding value_named name_in
 button_back = grind (arith, common_steps)
 
-pub mouse_button_back : (mask : ℕ) → IsBit mask → IsScriptRead MOUSE_BUTTONS mask
+pub mouse_button_back : (mask : ℕ) → IsBit mask → IsScriptRead mouse_buttons mask
 unfolding value_named name_in
 mouse_button_back = grind (arith, common_steps)
 

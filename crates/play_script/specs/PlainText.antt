@@ -12,7 +12,7 @@ use Rattle.text_lines.specs.declared.script.Version.{Version}
 use Rattle.text_lines.specs.declared.script.Version.TheVariants.{First, Second}
 use Rattle.text_lines.specs.declared.values.Value.{Value}
 use Rattle.text_lines.specs.declared.values.Value.TheVariants.{Byte, Button, MouseButton, Player, Pixel, Turn, Seconds, Minutes}
-use Rattle.text_lines.specs.declared.values.TheConstants.{BUTTONS, MOUSE_BUTTONS}
+use Rattle.text_lines.specs.ScriptRows.{buttons, mouse_buttons}
 use Rattle.text_lines.specs.PlainEvents.{plain_event}
 use Rattle.text_lines.specs.Scripts.{ScriptView}
 
@@ -27,8 +27,8 @@ name_in table mask = unwrap_or (option_map (λ row. row.0.now) (find (λ row. ro
 -- a value of a line as a word
 unfoldable pub value_word : Value → List ℕ
 value_word (Byte byte) = encode_lower (byte ∷ [])
-value_word (Button mask) = name_in BUTTONS mask
-value_word (MouseButton mask) = name_in MOUSE_BUTTONS mask
+value_word (Button mask) = name_in buttons mask
+value_word (MouseButton mask) = name_in mouse_buttons mask
 value_word (Player number) = decimal number
 value_word (Pixel at) = decimal at
 value_word (Turn steps) = signed_decimal steps

@@ -1,24 +1,25 @@
 -- What reading a symbol file answers, and what that means.
 use Rattle.std.specs.Prelude.{◌≡◌, ℕ, ◌+◌, ◌<◌, ◌≤◌, true, ◌==◌, List, [], ◌∷◌, ◌++◌, length}
 use Rattle.std.specs.Prelude.{min, Some, Result, Ok, Err}
-use Rattle.std.specs.Prelude.{map, slice_index_or}
+use Rattle.std.specs.Prelude.{codes}
 use Rattle.std.specs.List.{position_or_len}
-use denote.Enum.Declared.{tag_of}
 use Rattle.std.specs.Global.{Vec}
 use Rattle.tal_words.specs.declared.name.Label.{Label}
 use Rattle.tal_symbols.specs.declared.stop.SymbolKind.{SymbolKind}
 use Rattle.tal_symbols.specs.declared.stop.SymbolKind.TheVariants.{Long}
-use Rattle.tal_symbols.specs.declared.stop.TheConstants.{KIND_NAMES}
-use Rattle.tal_symbols.specs.contracts.stop.SymbolKind.{the_type}
+use Rattle.tal_symbols.specs.declared.stop.SymbolKind.TheVariants as kind
 use Rattle.tal_symbols.specs.declared.stop.SymbolStop.{SymbolStop}
 use Rattle.tal_symbols.specs.declared.stop.SymbolStop.TheVariants.{Refused, NoMemory}
 use Rattle.uxn_limits.specs.declared.limits.TheConstants.{SYMBOLS_LIMIT}
 use Rattle.tal_symbols.specs.SymbolFile.{symbol_file, are_readable}
 use Rattle.tal_symbols.specs.Reading.{Refusal, entry_fault}
 
--- the name of a kind, as it is printed, by the place of the kind in the list of kinds
+-- the name of a kind, as it is printed
 abbrev pub symbol_kind_name : SymbolKind → List ℕ
-symbol_kind_name kind = slice_index_or (map (λ name. name.now) KIND_NAMES) (tag_of the_type kind) []
+symbol_kind_name kind.Torn = codes "Torn"
+symbol_kind_name kind.NoName = codes "NoName"
+symbol_kind_name kind.BadByte = codes "BadByte"
+symbol_kind_name kind.Long = codes "Long"
 
 -- the answer is what is found in a file, labels or why it is refused; running out of memory is free
 abbrev pub ReadsSymbols : Result (List Label) Refusal → Result (Vec Label) SymbolStop → Type 0

@@ -21,15 +21,17 @@ pub enum SymbolKind {
     Long,
 }
 
-/// The names of the kinds, in their order.
-pub const KIND_NAMES: [&str; 4] = ["Torn", "NoName", "BadByte", "Long"];
-
 impl SymbolKind {
     /// The name of the kind, as it is printed.
     pub fn name(self) -> &'static str
         ensures { result.now ≡ symbol_kind_name self }
     {
-        KIND_NAMES[self as usize]
+        match self {
+            SymbolKind::Torn => "Torn",
+            SymbolKind::NoName => "NoName",
+            SymbolKind::BadByte => "BadByte",
+            SymbolKind::Long => "Long",
+        }
     }
 }
 

@@ -1,21 +1,38 @@
 -- What can be wrong with a source, and which fault is the first (profile: the kinds, their order and the phases).
-use Rattle.std.specs.Prelude.{◌≡◌, ℕ, Bool, if◌then◌else◌, List, [], ◌∷◌, map, slice_get, slice_index_or, Option, None, Some}
+use Rattle.std.specs.Prelude.{◌≡◌, ℕ, Bool, if◌then◌else◌, List, [], ◌∷◌, codes, slice_get, Option, None, Some}
 use Rattle.std.specs.Prelude.{Result, Ok, Err}
 use Rattle.std.specs.Option.{option_map, option_or}
-use denote.Enum.Declared.{tag_of}
 use Rattle.tal_words.specs.declared.span.Word.{Word}
 use Rattle.tal_words.specs.declared.fault.Fault.{Fault}
 use Rattle.tal_words.specs.declared.fault.FaultKind.{FaultKind}
 use Rattle.tal_words.specs.declared.fault.FaultKind.TheVariants.{LongSource}
-use Rattle.tal_words.specs.declared.fault.TheConstants.{KIND_NAMES}
-use Rattle.tal_words.specs.contracts.fault.FaultKind.{the_type}
+use Rattle.tal_words.specs.declared.fault.FaultKind.TheVariants as kind
 use Rattle.tal_words.specs.declared.fault.AsmStop.{AsmStop}
 use Rattle.tal_words.specs.declared.fault.AsmStop.TheVariants.{Refused, NoMemory}
 use Rattle.tal_words.specs.Source.{bytes_run_at}
 
--- the name of a kind, as it is printed, by the place of the kind in the list of kinds
+-- the name of a kind, as it is printed
 abbrev pub kind_name : FaultKind → List ℕ
-kind_name kind = slice_index_or (map (λ name. name.now) KIND_NAMES) (tag_of the_type kind) []
+kind_name kind.OpenComment = codes "OpenComment"
+kind_name kind.LongWord = codes "LongWord"
+kind_name kind.StrayParen = codes "StrayParen"
+kind_name kind.BadNumber = codes "BadNumber"
+kind_name kind.BadName = codes "BadName"
+kind_name kind.NoName = codes "NoName"
+kind_name kind.IncludeHere = codes "IncludeHere"
+kind_name kind.LongSource = codes "LongSource"
+kind_name kind.MacroTwice = codes "MacroTwice"
+kind_name kind.MacroBody = codes "MacroBody"
+kind_name kind.MacroDeep = codes "MacroDeep"
+kind_name kind.ManyWords = codes "ManyWords"
+kind_name kind.StrayBrace = codes "StrayBrace"
+kind_name kind.OpenBrace = codes "OpenBrace"
+kind_name kind.LabelTwice = codes "LabelTwice"
+kind_name kind.ZeroPage = codes "ZeroPage"
+kind_name kind.Outside = codes "Outside"
+kind_name kind.Rewind = codes "Rewind"
+kind_name kind.UnknownName = codes "UnknownName"
+kind_name kind.TooFar = codes "TooFar"
 
 -- a word of a phase: where its faults are reported, and each kind of fault that it has, in order
 pub record Validated : Type 0 where

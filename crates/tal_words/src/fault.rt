@@ -57,36 +57,33 @@ pub enum FaultKind {
     TooFar,
 }
 
-/// The names of the kinds, in their order.
-pub const KIND_NAMES: [&str; 20] = [
-    "OpenComment",
-    "LongWord",
-    "StrayParen",
-    "BadNumber",
-    "BadName",
-    "NoName",
-    "IncludeHere",
-    "LongSource",
-    "MacroTwice",
-    "MacroBody",
-    "MacroDeep",
-    "ManyWords",
-    "StrayBrace",
-    "OpenBrace",
-    "LabelTwice",
-    "ZeroPage",
-    "Outside",
-    "Rewind",
-    "UnknownName",
-    "TooFar",
-];
-
 impl FaultKind {
     /// The name of the kind, as it is printed.
     pub fn name(self) -> &'static str
         ensures { result.now ≡ kind_name self }
     {
-        KIND_NAMES[self as usize]
+        match self {
+            FaultKind::OpenComment => "OpenComment",
+            FaultKind::LongWord => "LongWord",
+            FaultKind::StrayParen => "StrayParen",
+            FaultKind::BadNumber => "BadNumber",
+            FaultKind::BadName => "BadName",
+            FaultKind::NoName => "NoName",
+            FaultKind::IncludeHere => "IncludeHere",
+            FaultKind::LongSource => "LongSource",
+            FaultKind::MacroTwice => "MacroTwice",
+            FaultKind::MacroBody => "MacroBody",
+            FaultKind::MacroDeep => "MacroDeep",
+            FaultKind::ManyWords => "ManyWords",
+            FaultKind::StrayBrace => "StrayBrace",
+            FaultKind::OpenBrace => "OpenBrace",
+            FaultKind::LabelTwice => "LabelTwice",
+            FaultKind::ZeroPage => "ZeroPage",
+            FaultKind::Outside => "Outside",
+            FaultKind::Rewind => "Rewind",
+            FaultKind::UnknownName => "UnknownName",
+            FaultKind::TooFar => "TooFar",
+        }
     }
 }
 

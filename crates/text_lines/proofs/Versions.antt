@@ -1,6 +1,6 @@
 -- What version 1 reads, version 2 reads too.
 use Rattle.std.proofs.lemmas.Grind.{common_steps}
-use Rattle.std.proofs.Common.{◌≡◌, ℕ, ◌+◌, ◌<◌, ◌≤◌, Bool, true, false, cond, List, [], ◌∷◌, ◌++◌, length, drop, Option, Some, None, Result, Ok, Err, refl}
+use Rattle.std.proofs.Common.{◌≡◌, ℕ, ◌+◌, ◌<◌, ◌≤◌, Bool, true, false, cond, List, [], ◌∷◌, ◌++◌, length, Option, Some, None, Result, Ok, Err, refl}
 use Rattle.std.proofs.Common.{sym, ap, ◌∙◌, arith, rules, tests}
 use Rattle.std.specs.Prelude.{codes}
 use Rattle.std.specs.List.{All, AllByRecursion, find}
@@ -16,16 +16,15 @@ use Rattle.text_lines.specs.Lines.{is_newline, words_of}
 use Rattle.text_lines.specs.Numbers.{begins_with}
 use Rattle.text_lines.specs.Reading.{Line, given, made, each_line}
 use Rattle.text_lines.specs.Named.{value_named}
-use Rattle.text_lines.specs.Rows.{Rows, fault_named, counted, keyword_of, line_by}
+use Rattle.text_lines.specs.Rows.{fault_named, counted, keyword_of, line_by}
 use Rattle.text_lines.specs.declared.script_word.Keyword.{Keyword}
-use Rattle.text_lines.specs.declared.script_word.TheConstants.{FURTHER, ROWS}
 use Rattle.text_lines.specs.declared.script_word.Keyword.TheVariants as word
 use Rattle.text_lines.specs.declared.script.ScriptKind.{ScriptKind}
 use Rattle.text_lines.specs.declared.script.ScriptKind.TheVariants.{Unknown, Missing, Extra, BadValue}
 use Rattle.text_lines.specs.declared.script.Version.{Version}
 use Rattle.text_lines.specs.declared.script.Version.TheVariants.{First, Second}
 use Rattle.text_lines.specs.ScriptRows.{Meaning, version, clock, arguments, events, script_meaning_of, events_of_line, device_of, version_of}
-use Rattle.text_lines.specs.ScriptRows.{clock_of_values, keys_of, buttons_of, script_line_of, rows_of}
+use Rattle.text_lines.specs.ScriptRows.{clock_of_values, keys_of, buttons_of, first_rows, second_rows, script_line_of, rows_of}
 use Rattle.text_lines.specs.Scripts.{ScriptView, script_fault, script_from, script_of, version_in}
 use Rattle.text_lines.specs.ScriptValues.{texts_of_values}
 use Rattle.text_lines.proofs.ScriptStepping.{script_by, short_script}
@@ -44,9 +43,6 @@ found_holds P test (x ∷ xs) all = found_at P test x (find test xs) (test x) re
 abbrev Row : Type 0
 Row = record { now : List ℕ } × (Counts × Keyword)
 
-abbrev first_rows : Rows Keyword
-first_rows = drop FURTHER ROWS
-
 abbrev meant : Version → Line (Keyword × List (List ℕ)) LineFault → Line Meaning ScriptKind
 meant number said = line_by (fault_named Unknown Missing Extra) (λ keyword values. ok_or (script_meaning_of keyword number values) BadValue) said
 
@@ -58,21 +54,21 @@ reads number found values = meant number (said_by (counted found (length values)
 
 record Carries (row : Row) : Type 0 where
   same : (values : List (List ℕ)) (m : Option Meaning) → reads First (Some row.1) values ≡ Ok m
-      → reads Second (value_named ROWS row.0.now) values ≡ Ok m
+      → reads Second (value_named second_rows row.0.now) values ≡ Ok m
 
-same_row : (row : Row) → value_named ROWS row.0.now ≡ Some row.1
+same_row : (row : Row) → value_named second_rows row.0.now ≡ Some row.1
     → ((values : List (List ℕ)) → script_meaning_of row.1.1 First values ≡ script_meaning_of row.1.1 Second values) → Carries row
 same_row row found equal = grind (arith, common_steps)
 
-wide_line : (name : List ℕ) (keyword : Keyword) → value_named ROWS name ≡ Some (Between 1 2, keyword)
+wide_line : (name : List ℕ) (keyword : Keyword) → value_named second_rows name ≡ Some (Between 1 2, keyword)
     → ((b : List ℕ) → script_meaning_of keyword First (b ∷ []) ≡ script_meaning_of keyword Second (b ∷ []))
     → (values : List (List ℕ)) (m : Option Meaning)
-    → reads First (Some (Exactly 1, keyword)) values ≡ Ok m → reads Second (value_named ROWS name) values ≡ Ok m
+    → reads First (Some (Exactly 1, keyword)) values ≡ Ok m → reads Second (value_named second_rows name) values ≡ Ok m
 wide_line name keyword found equal [] m is = absurd (grind (arith, is))
 wide_line name keyword found equal (b ∷ []) m is = rw found (ap (λ m. made Some (ok_or m BadValue)) (sym (equal b)) ∙ is)
 wide_line name keyword found equal (b ∷ c ∷ more) m is = grind (arith, common_steps)
 
-wide_row : (name : List ℕ) (keyword : Keyword) → value_named ROWS name ≡ Some (Between 1 2, keyword)
+wide_row : (name : List ℕ) (keyword : Keyword) → value_named second_rows name ≡ Some (Between 1 2, keyword)
     → ((b : List ℕ) → script_meaning_of keyword First (b ∷ []) ≡ script_meaning_of keyword Second (b ∷ [])) → Carries (record { now = name }, (Exactly 1, keyword))
 wide_row name keyword found equal = record { same = wide_line name keyword found equal }
 
@@ -115,13 +111,13 @@ same_text : (xs ys : List ℕ) → bytes_eq xs ys ≡ true → xs ≡ ys
 same_text xs ys is = search (rules, tests)
 
 lift_row : (name : List ℕ) (values : List (List ℕ)) (m : Option Meaning) (found : Option Row) → IfSome found (λ row. Carries row × (bytes_eq row.0.now name ≡ true))
-    → Gives (reads First (option_map (λ row. row.1) found) values) m → Gives (reads Second (value_named ROWS name) values) m
+    → Gives (reads First (option_map (λ row. row.1) found) values) m → Gives (reads Second (value_named second_rows name) values) m
 lift_row name values m None holds is = absurd (grind (arith, is))
 lift_row name values m (Some row) holds is = rw (sym (same_text row.0.now name holds.1)) (holds.0.same values m is)
 
 lift_if : (test : Bool) (name : List ℕ) (values : List (List ℕ)) (m : Option Meaning)
     → Gives (meant First (cond test (Ok None) (said_by (counted (value_named first_rows name) (length values)) values))) m
-    → (Gives (meant Second (cond test (Ok None) (said_by (counted (value_named ROWS name) (length values)) values))) m) × IfSome m IsNoVersion
+    → (Gives (meant Second (cond test (Ok None) (said_by (counted (value_named second_rows name) (length values)) values))) m) × IfSome m IsNoVersion
 unfolding value_named
 lift_if true name values m is = (is, let same : m ≡ None = grind (arith, is) in rw same tt)
 lift_if false name values m is = (

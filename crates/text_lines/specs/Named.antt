@@ -9,6 +9,10 @@ use Rattle.std.specs.Str.{bytes_eq}
 abbrev pub Named : Type 0 → Type 0
 Named V = List (record { now : List ℕ } × V)
 
+-- a row
+abbrev pub named : {V : Type 0} → List ℕ → V → record { now : List ℕ } × V
+named name value = (record { now = name }, value)
+
 -- the rows that the code looks up
 abbrev pub named_row_in : {V : Type 0} → Bor (List ℕ) × V → record { now : List ℕ } × V
 named_row_in row = (record { now = row.0.now }, row.1)

@@ -1,13 +1,14 @@
 -- What a line of a setup gives (profile), a row for each first word.
-use Rattle.std.specs.Prelude.{ℕ, List, ◌∷◌, Option, None, option_map}
+use Rattle.std.specs.Prelude.{ℕ, List, [], ◌∷◌, codes, Option, None, option_map}
 use Rattle.std.specs.Option.{ok_or, option_zip}
 use Rattle.std.specs.Result.{result_ok}
 use Rattle.uxn_limits.specs.declared.limits.TheConstants.{MOST_MACHINES, TURNS_OF_LINE, GREATEST_BUDGET}
+use Rattle.text_lines.specs.Named.{named}
 use Rattle.text_lines.specs.Numbers.{number_within}
 use Rattle.text_lines.specs.Reading.{Line}
-use Rattle.text_lines.specs.Rows.{fault_named, keyword_of, line_by}
+use Rattle.text_lines.specs.Rows.{Rows, fault_named, keyword_of, line_by}
 use Rattle.uxn_io_traits.specs.PathText.{path_of}
-use Rattle.text_lines.specs.declared.setup_word.TheConstants.{ROWS}
+use Rattle.text_lines.specs.declared.row.Counts.TheVariants.{Exactly}
 use Rattle.text_lines.specs.declared.setup_word.Keyword.{Keyword}
 use Rattle.text_lines.specs.declared.setup_word.Keyword.TheVariants as word
 use Rattle.text_lines.specs.declared.setup.SetupKind.{SetupKind}
@@ -29,7 +30,16 @@ setup_of_values word.Budget (n ∷ more) = option_map Budget (number_within 1 GR
 setup_of_values word.Turn (m ∷ n ∷ more) = option_map Turn (turns_of m n)
 setup_of_values _ values = None
 
+-- the lines of a setup
+abbrev pub setup_rows : Rows Keyword
+setup_rows =
+    named (codes "machine") (Exactly 1, word.Machine) ∷
+    named (codes "script") (Exactly 1, word.Script) ∷
+    named (codes "budget") (Exactly 1, word.Budget) ∷
+    named (codes "turn") (Exactly 2, word.Turn) ∷
+    []
+
 -- what the words of a line give, or what is wrong with them; a line without words or with `#` before its first gives nothing
 unfoldable pub setup_line_of : List (List ℕ) → Line SetupLine SetupKind
 setup_line_of words =
-    line_by (fault_named Unknown Missing Extra) (λ keyword values. ok_or (setup_of_values keyword values) BadValue) (keyword_of ROWS words)
+    line_by (fault_named Unknown Missing Extra) (λ keyword values. ok_or (setup_of_values keyword values) BadValue) (keyword_of setup_rows words)

@@ -155,17 +155,6 @@ pub enum ScriptKind {
     LongScript,
 }
 
-/// The names of the kinds, in their order.
-pub const KIND_NAMES: [&str; 7] = [
-    "Unknown",
-    "BadValue",
-    "Missing",
-    "Extra",
-    "Late",
-    "ManyEvents",
-    "LongScript",
-];
-
 impl ScriptKind {
     ghost use Rattle.text_lines.specs.ScriptKinds.{script_kind_name};
 
@@ -173,7 +162,15 @@ impl ScriptKind {
     pub fn name(self) -> &'static str
         ensures { result.now ≡ script_kind_name self }
     {
-        KIND_NAMES[self as usize]
+        match self {
+            ScriptKind::Unknown => "Unknown",
+            ScriptKind::BadValue => "BadValue",
+            ScriptKind::Missing => "Missing",
+            ScriptKind::Extra => "Extra",
+            ScriptKind::Late => "Late",
+            ScriptKind::ManyEvents => "ManyEvents",
+            ScriptKind::LongScript => "LongScript",
+        }
     }
 }
 

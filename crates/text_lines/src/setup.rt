@@ -122,20 +122,6 @@ pub enum SetupKind {
     LongSetup,
 }
 
-/// The names of the kinds, in their order.
-pub const KIND_NAMES: [&str; 10] = [
-    "Unknown",
-    "Missing",
-    "Extra",
-    "BadValue",
-    "Twice",
-    "ManyMachines",
-    "NoMachine",
-    "ManyTurns",
-    "FewMachines",
-    "LongSetup",
-];
-
 impl SetupKind {
     ghost use Rattle.text_lines.specs.SetupKinds.{setup_kind_name};
 
@@ -143,7 +129,18 @@ impl SetupKind {
     pub fn name(self) -> &'static str
         ensures { result.now ≡ setup_kind_name self }
     {
-        KIND_NAMES[self as usize]
+        match self {
+            SetupKind::Unknown => "Unknown",
+            SetupKind::Missing => "Missing",
+            SetupKind::Extra => "Extra",
+            SetupKind::BadValue => "BadValue",
+            SetupKind::Twice => "Twice",
+            SetupKind::ManyMachines => "ManyMachines",
+            SetupKind::NoMachine => "NoMachine",
+            SetupKind::ManyTurns => "ManyTurns",
+            SetupKind::FewMachines => "FewMachines",
+            SetupKind::LongSetup => "LongSetup",
+        }
     }
 }
 

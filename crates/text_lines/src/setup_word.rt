@@ -2,7 +2,7 @@
 
 ghost use Rattle.std.specs.Prelude.{◌≡◌};
 ghost use Rattle.text_lines.specs.Named.{named_in};
-ghost use Rattle.text_lines.specs.declared.setup_word.TheConstants.{ROWS};
+ghost use Rattle.text_lines.specs.SetupLines.{setup_rows};
 
 use super::{Counts, Row};
 
@@ -25,7 +25,7 @@ pub(crate) static ROWS: [Row<Keyword>; 4] = [
 
 // The lines of a setup.
 pub(crate) fn rows() -> &'static [Row<Keyword>]
-    ensures { named_in result.now ≡ ROWS }
+    ensures { named_in result.now ≡ setup_rows }
 {
     ROWS.as_slice()
 }

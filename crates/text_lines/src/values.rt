@@ -7,9 +7,9 @@ ghost use Rattle.text_lines.specs.Lines.{words_of};
 ghost use Rattle.text_lines.specs.Named.{value_named};
 ghost use Rattle.text_lines.specs.Numbers.{integer_within, number_within};
 ghost use Rattle.text_lines.specs.ScriptHeld.{bytes_if};
+ghost use Rattle.text_lines.specs.ScriptRows.{buttons, mouse_buttons};
 ghost use Rattle.text_lines.specs.ScriptLimits.{IsBit, IsValue};
 ghost use Rattle.text_lines.specs.ScriptValues.{text_of_values, one_or};
-ghost use Rattle.text_lines.specs.declared.values.TheConstants.{BUTTONS, MOUSE_BUTTONS};
 ghost use Rattle.text_lines.specs.declared.values.Value.TheVariants.{Minutes, Pixel, Seconds, Turn};
 
 use super::{Named, begins_with, first_word, integer_within, number_within, value_named};
@@ -128,7 +128,7 @@ pub static MOUSE_BUTTONS: [Named<u8>; 8] = [
 // The bit of a controller's button.
 #[tactic(auto, unfolding(crate::specs::Named::value_named))]
 pub(crate) fn button_bit(word: &[u8]) -> Option<u8>
-    ensures button { result ≡ value_named BUTTONS word.now }
+    ensures button { result ≡ value_named buttons word.now }
     ensures bit { IfSome result IsBit }
 {
     value_named(BUTTONS.as_slice(), word)
@@ -137,7 +137,7 @@ pub(crate) fn button_bit(word: &[u8]) -> Option<u8>
 // The bit of a mouse's button.
 #[tactic(auto, unfolding(crate::specs::Named::value_named))]
 pub(crate) fn mouse_button_bit(word: &[u8]) -> Option<u8>
-    ensures button { result ≡ value_named MOUSE_BUTTONS word.now }
+    ensures button { result ≡ value_named mouse_buttons word.now }
     ensures bit { IfSome result IsBit }
 {
     value_named(MOUSE_BUTTONS.as_slice(), word)

@@ -1,6 +1,6 @@
 -- What the words of a command mean that has one operand, and options by a table (profile).
 use Rattle.std.specs.Prelude.{ℕ, Bool, true, false, not, nat_lt, ◌==◌, ◌&&◌, ◌||◌, List, []}
-use Rattle.std.specs.Prelude.{◌∷◌, codes, length, take, drop, map, Option, Some, None, option_map, option_and_then, find}
+use Rattle.std.specs.Prelude.{◌∷◌, codes, length, take, drop, Option, Some, None, option_map, option_and_then, find}
 use Rattle.std.specs.Prelude.{if◌then◌else◌}
 use Rattle.std.specs.List.{list_all, list_any, before_first, after_first}
 use Rattle.std.specs.Option.{option_map_or}
@@ -20,10 +20,6 @@ abbrev pub choice_of : List ℕ → ChoiceKind → Choice
 choice_of name Switch = record { name = name; has_value = false; is_required = false }
 choice_of name Optional = record { name = name; has_value = true; is_required = false }
 choice_of name Required = record { name = name; has_value = true; is_required = true }
-
--- the options of a table
-abbrev pub choices_in : List (record { now : List ℕ } × ChoiceKind) → List Choice
-choices_in rows = map (λ row. choice_of row.0.now row.1) rows
 
 abbrev pub choice_named : List Choice → List ℕ → Option Choice
 choice_named choices name = find (λ choice. bytes_eq choice.name name) choices

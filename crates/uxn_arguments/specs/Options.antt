@@ -1,10 +1,10 @@
 -- The options of each command, in the order of its usage line; what each sets in the task that is requested; and which of the files that
 -- a task names it reads, and which it writes (profile).
-use Rattle.std.specs.Prelude.{◌≤◌, ℕ, List, [], ◌∷◌, ◌++◌, codes, drop, Option, Some, None}
+use Rattle.std.specs.Prelude.{◌≤◌, ℕ, List, [], ◌∷◌, ◌++◌, codes, Option, Some, None}
 use Rattle.std.specs.Prelude.{is_some, option_map, option_to_list, ok_or, Result, Ok, ⊤}
 use Rattle.std.specs.Option.{option_map_or}
-use Rattle.uxn_arguments.specs.Choices.{Choice, choices_in, operand}
-use Rattle.uxn_arguments.specs.declared.options.TheConstants.{DEBUG_ONLY, DEBUG, ASSEMBLE, DISASSEMBLE}
+use Rattle.uxn_arguments.specs.Choices.{Choice, choice_of, operand}
+use Rattle.uxn_arguments.specs.declared.choice.ChoiceKind.TheVariants.{Switch, Optional, Required}
 use Rattle.uxn_arguments.specs.declared.task.AssembleTask.{AssembleTask}
 use Rattle.uxn_arguments.specs.declared.task.DebugTask.{DebugTask}
 use Rattle.uxn_arguments.specs.declared.task.DisassembleTask.{DisassembleTask}
@@ -19,11 +19,20 @@ use Rattle.uxn_arguments.specs.Values.{Values, then_steps, requested_budget, req
 
 -- ---- how they stand on the command line
 
+-- those of a run
+abbrev pub run_choices : List Choice
+run_choices =
+    choice_of (codes "rom") Switch ∷ choice_of (codes "budget") Optional ∷
+    choice_of (codes "script") Optional ∷ choice_of (codes "root") Optional ∷
+    choice_of (codes "frames") Optional ∷ choice_of (codes "samples") Optional ∷ choice_of (codes "report") Optional ∷ []
+
 abbrev pub choices_of : Command → List Choice
-choices_of command.Play = choices_in (drop DEBUG_ONLY DEBUG)
-choices_of command.Debug = choices_in DEBUG
-choices_of command.Assemble = choices_in ASSEMBLE
-choices_of command.Disassemble = choices_in DISASSEMBLE
+choices_of command.Play = run_choices
+choices_of command.Debug =
+    choice_of (codes "commands") Required ∷ choice_of (codes "log") Required ∷ choice_of (codes "symbols") Optional ∷ run_choices
+choices_of command.Assemble =
+    choice_of (codes "out") Required ∷ choice_of (codes "symbols") Optional ∷ choice_of (codes "listing") Optional ∷ []
+choices_of command.Disassemble = choice_of (codes "symbols") Optional ∷ []
 choices_of _ = []
 
 -- ---- what they set

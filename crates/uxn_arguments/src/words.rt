@@ -1,7 +1,8 @@
 //! The words of the command line.
 ghost use Rattle.std.specs.Prelude.{◌≡◌, IfOk, map, string_bytes};
 ghost use Rattle.uxn_arguments.specs.Options.{HasBudget};
-ghost use Rattle.uxn_arguments.specs.Words.{command_task, task_of};
+ghost use Rattle.text_lines.specs.Named.{named_in};
+ghost use Rattle.uxn_arguments.specs.Words.{command_task, commands, task_of};
 ghost use Rattle.uxn_arguments.specs.ReadsArguments.{ReadsArguments};
 
 use super::reading;
@@ -59,7 +60,7 @@ impl From<AllocError> for WordStop {
 }
 
 /// The commands by their names.
-pub(crate) static COMMANDS: [Named<Command>; 6] = [
+static COMMANDS: [Named<Command>; 6] = [
     ("play", Command::Play),
     ("debug", Command::Debug),
     ("asm", Command::Assemble),
@@ -67,6 +68,13 @@ pub(crate) static COMMANDS: [Named<Command>; 6] = [
     ("gen", Command::Generate),
     ("line", Command::Line),
 ];
+
+// The commands by their names.
+fn commands() -> &'static [Named<Command>]
+    ensures { named_in result.now ≡ commands }
+{
+    COMMANDS.as_slice()
+}
 
 impl Command {
     /// What the words after the command's name ask for.
@@ -91,7 +99,7 @@ pub fn read_words(alloc: Global, words: &[String]) -> Result<Task, WordStop>
     let Some((name, rest)) = words.split_first() else {
         return Err(WordStop::Refused(WordFault::NotUnderstood));
     };
-    match value_named(COMMANDS.as_slice(), name.as_bytes()) {
+    match value_named(commands(), name.as_bytes()) {
         Some(command) => command.read(alloc, rest),
         None => Err(WordStop::Refused(WordFault::NotUnderstood)),
     }
