@@ -3,7 +3,7 @@ use Rattle.uxn_io_traits.specs.EndedLaws.{outside-of-out, outside-of-err}
 use Rattle.varvara_bus.specs.declared.ports.Action.TheVariants.{PutsDebugText, PutsOut, PutsErr}
 use Rattle.varvara_bus.specs.Effect.{debug_bytes, width_requested, height_requested, pixel_drawn, sprite_drawn, note_started}
 use Rattle.varvara_bus.proofs.Acts.{sink-ends, sink-ledger, core_done, devices_done, file-ends, file-ledger, tree-refuses}
-use Rattle.varvara_bus.proofs.bus.Bus.act.Goals as goal
+use Rattle.varvara_bus.proofs.bus.Bus.act_on_device.Goals as goal
 
 pub returns-in-Stores-clause-acted : goal.returns-in-Stores-clause-acted
 returns-in-Stores-clause-acted g c = rw c.in-Stores.is (core_done _ c.args.self.now c.args.core.now _ _ c.args.value refl (λ state stood. refl))
