@@ -55,6 +55,10 @@ pub record PaintedOver (before after : List ℕ) (width height : ℕ) (paint : �
   pub count : length after ≡ length before
   pub pixels : (x y : ℕ) → x < width → y < height → pixel_at width after x y ≡ unwrap_or (paint x y) (pixel_at width before x y)
 
+-- the values that are shown where two rows lie over each other, at one row
+abbrev pub values_shown : List ℕ → List ℕ → ℕ → ℕ → ℕ → Option ℕ
+values_shown foreground background row x y = if y == row then Some (shown (slice_index foreground x) (slice_index background x)) else None
+
 -- the values of one row that are shown where two lists lie over each other
 abbrev pub row_shown : ℕ → List ℕ → List ℕ → ℕ → ℕ → ℕ → Option ℕ
 row_shown width foreground background row x y =

@@ -3,3 +3,4 @@ pub mod Blending
 pub mod Drawings
 pub mod Pictures
 pub mod Layers
+pub mod Kept

@@ -11,14 +11,16 @@ ghost use Rattle.screen_layers.specs.Pictures.{Picture, new_picture, after_pixel
 ghost use Rattle.screen_layers.specs.Pictures.{can_resize, resized, is_marked, values_of, picture_row_of};
 
 mod control;
+mod lazy_plane;
 mod marks;
 mod plane;
 mod size;
 mod tile;
 
 use control::{Layer, auto_step, has_bit, layer_of, side_step};
+use lazy_plane::LazyPlane;
 use marks::Marks;
-use plane::{Plane, compose_row};
+use plane::compose_row;
 use screen_frame::{CHANNELS, Palette, ppm_row};
 use size::{Area, Size};
 use std::alloc::{AllocError, Global};
@@ -58,9 +60,9 @@ impl Moved {
 #[derive(Drop)]
 pub struct Screen {
     size: Size,
-    background: Plane,
-    foreground: Plane,
-    composed: Plane,
+    background: LazyPlane,
+    foreground: LazyPlane,
+    composed: LazyPlane,
     marks: Marks,
 }
 
@@ -100,9 +102,9 @@ impl Screen {
         let size = first_size();
         Ok(Screen {
             size,
-            background: Plane::new(alloc, size)?,
-            foreground: Plane::new(alloc, size)?,
-            composed: Plane::new(alloc, size)?,
+            background: LazyPlane::new(alloc, size)?,
+            foreground: LazyPlane::new(alloc, size)?,
+            composed: LazyPlane::new(alloc, size)?,
             marks: Marks::new(alloc)?,
         })
     }

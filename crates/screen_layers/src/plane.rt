@@ -2,7 +2,7 @@
 ghost use Rattle.std.specs.Prelude.{ℕ, ◌≡◌, ◌+◌, ◌*◌, ◌<◌, ◌≤◌, All, IfOk, length, take, drop, slice_index, replicate};
 ghost use Rattle.screen_frame.specs.Colours.{shown};
 ghost use Rattle.screen_layers.specs.Drawings.{painted, fill, dot, tile_at, look_of};
-ghost use Rattle.screen_layers.specs.Layers.{PaintedOver, row_shown};
+ghost use Rattle.screen_layers.specs.Layers.{PaintedOver, values_shown};
 
 use crate::Moved;
 use crate::size::{Area, Size};
@@ -105,21 +105,19 @@ impl Plane {
         &self.pixels[start..start + usize::from(size.width)]
     }
 
-    /// Puts the values into a row that are shown where the rows of two layers lie over each other.
-    pub fn compose(&mut self, size: Size, y: u16, foreground: &Plane, background: &Plane)
+    /// Puts the values into a row that are shown where two rows lie over each other.
+    pub fn compose(&mut self, size: Size, y: u16, foreground: &[u8], background: &[u8])
         requires plane { length self.old ≡ size.height * size.width }
-        requires foreground { length foreground.now ≡ size.height * size.width }
-        requires background { length background.now ≡ size.height * size.width }
+        requires foreground { length foreground.now ≡ size.width }
+        requires background { length background.now ≡ size.width }
+        requires front { All (λ colour. colour < 4) foreground.now }
+        requires back { All (λ colour. colour < 4) background.now }
         requires row { y < size.height }
-        ensures { PaintedOver self.old self.new size.width size.height (row_shown size.width foreground.now background.now y) }
+        ensures { PaintedOver self.old self.new size.width size.height (values_shown foreground.now background.now y) }
     {
         let from = LEAD + size.start(y);
         let to = from + usize::from(size.width);
-        compose_row(
-            foreground.row(size, y),
-            background.row(size, y),
-            &mut self.pixels[from..to],
-        );
+        compose_row(foreground, background, &mut self.pixels[from..to]);
     }
 }
 

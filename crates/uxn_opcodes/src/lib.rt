@@ -214,8 +214,8 @@ fn read_word<P: Ports>(core: &Core, ports: &P, port: u8, width: Width) -> u16
     }
 }
 
-/// Writes a word to a port, the high byte first; a stop ends it. It is rare and large, and so it stays out of the loop.
-#[inline(never)]
+/// Writes a word to a port, the high byte first; a stop ends it.
+#[inline(always)]
 fn write_word<P: Ports>(
     core: &mut Core,
     ports: &mut P,

@@ -173,7 +173,7 @@ impl<'a, T: Tree, O: Sink, E: Sink> Bus<'a, T, O, E> {
         ensures others { ChangesDevices self.old self.new }
         ensures frames { frames_begun self.new ≡ frames_begun self.old + 1 }
     {
-        self.devices.time.frames += 1;
+        self.devices.begin_frame();
     }
 
     /// How many frames have begun.
@@ -272,6 +272,7 @@ impl<'a, T: Tree, O: Sink, E: Sink> Ports for Bus<'a, T, O, E> {
         read(self.devices, core, port)
     }
 
+    #[inline(always)]
     fn deo(&mut self, core: &mut Core, port: u8, value: u8) -> Result<(), Stop> {
         self.devices.store(port, value);
         self.act(core, Action::of(port), value)
@@ -287,9 +288,22 @@ impl<'a, T: Tree, O: Sink, E: Sink> Ports for Bus<'a, T, O, E> {
 }
 
 impl<'a, T: Tree, O: Sink, E: Sink> Bus<'a, T, O, E> {
-    /// Does what a write of a byte does once the byte is stored.
+    /// Does what a write of a byte does once the byte is stored. Most ports only hold a byte: no call is made for them.
     #[inline(always)]
     fn act(&mut self, core: &mut Core, action: Action, value: u8) -> Result<(), Stop>
+        ensures acted { ActEnds (meaning_of T.Tree O.Sink E.Sink) self.old core.old action value self.new core.new result }
+        ensures ledger { Ledger (bus_faults (meaning_of T.Tree O.Sink E.Sink) self.old)
+            (bus_faults (meaning_of T.Tree O.Sink E.Sink) self.new) (result_blame result) }
+    {
+        match action {
+            Action::Stores => Ok(()),
+            _ => self.act_on_device(core, action, value),
+        }
+    }
+
+    /// The same. It is large, and so it stays out of the loop of instructions.
+    #[inline(never)]
+    fn act_on_device(&mut self, core: &mut Core, action: Action, value: u8) -> Result<(), Stop>
         ensures acted { ActEnds (meaning_of T.Tree O.Sink E.Sink) self.old core.old action value self.new core.new result }
         ensures ledger { Ledger (bus_faults (meaning_of T.Tree O.Sink E.Sink) self.old)
             (bus_faults (meaning_of T.Tree O.Sink E.Sink) self.new) (result_blame result) }

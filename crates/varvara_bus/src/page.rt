@@ -1,13 +1,13 @@
 //! What the ports of the devices hold.
 ghost use Rattle.std.specs.Prelude.{◌≡◌, ℕ, Bool, ◌+◌, ◌*◌, ◌<◌, ◌==◌, if◌then◌else◌, IfOk, [], ◌∷◌, slice_index, slice_set, pos, neg_ℤ, ◌≤ℤ◌};
-ghost use Rattle.uxn_limits.specs.declared.limits.TheConstants.{LAST_SECOND, LAST_OFFSET};
+ghost use Rattle.uxn_limits.specs.declared.limits.TheConstants.{MOST_EVENTS, LAST_SECOND, LAST_OFFSET};
 ghost use Rattle.uxn_limits.specs.declared.ports.TheConstants.{CONSOLE_READ, CONSOLE_TYPE};
 ghost use Rattle.console_port.specs.Console.{event_byte, given};
 ghost use Rattle.input_ports.specs.Page.{with_stores, stores_of, stores_after};
 ghost use Rattle.input_ports.specs.Page.{short_stores};
 ghost use Rattle.varvara_bus.specs.History.{at_first, made_ready, stored, stored_short};
 ghost use Rattle.uxn_io_traits.specs.Files.{Nodes};
-ghost use Rattle.varvara_bus.specs.State.{DeviceState, DevicesRepresent, device_clock, new_state, storing};
+ghost use Rattle.varvara_bus.specs.State.{DeviceState, DevicesRepresent, device_clock, new_state, next_frame, storing};
 
 use crate::devices::Devices;
 use crate::time::{Clock, Time};
@@ -37,11 +37,7 @@ impl Devices {
             mixer: Mixer::new(),
             first_file: FileDevice::new(alloc),
             second_file: FileDevice::new(alloc),
-            time: Time {
-                seconds: clock.seconds,
-                offset: clock.offset,
-                frames: 0,
-            },
+            time: Time::new(clock),
             root,
         })
     }
@@ -105,6 +101,17 @@ impl Devices {
             → DevicesRepresent self.new (storing (stores_after input.now) state) }
     {
         settle(&mut self.page, input);
+    }
+
+    /// Counts a frame that begins.
+    pub(crate) fn begin_frame(&mut self)
+        requires { self.old.time.frames < MOST_EVENTS }
+        ensures stands { (state : DeviceState) → DevicesRepresent self.old state → DevicesRepresent self.new (next_frame state) }
+        ensures frames { self.new.time.frames ≡ self.old.time.frames + 1 }
+        ensures clock { device_clock self.new ≡ device_clock self.old }
+        ensures root { self.new.root ≡ self.old.root }
+    {
+        self.time.begin_frame();
     }
 
     /// The short in a port and the next one.

@@ -1,7 +1,4 @@
-use Rattle.std.proofs.Common.{arith, ap, length, ◌∙◌, ◌+◌, ◌-◌, ◌<◌, slice_index}
-use Rattle.screen_frame.specs.Colours.{shown}
-use Rattle.screen_layers.specs.Layers.{pixel_at}
-use Rattle.screen_layers.proofs.ComposedLemmas.{row-pixel}
+use Rattle.std.proofs.Common.{arith, ap, length, ◌+◌, ◌-◌, ◌<◌}
 use Rattle.screen_layers.proofs.LeadLemmas.{size_behind, are-written}
 use Rattle.screen_layers.proofs.Spans.{row-painted, All-put_mid}
 use Rattle.screen_layers.proofs.plane.Plane.compose.Goals as goal
@@ -20,7 +17,7 @@ invariant_of-self c =
       c.self.invariant.0,
       w.room,
       rw w.after (All-put_mid (λ colour. colour < 4) c.start-from.result k c.args.self.now c.compose_row.new.into (rw c.self.view_is at c.self.invariant.2)
-          (c.compose_row.ensures.colours c.row.ensures.colours c.row-2.ensures.colours)),
+          (c.compose_row.ensures.colours c.requires.front c.requires.back)),
     )
 
 pub returns : goal.returns
@@ -32,7 +29,4 @@ returns c =
     c.deref_mut.ensures.value c.self.view_is (omega arith) (omega arith) (omega (arith, c.compose_row.ensures.count)) in
     rw w.after (row-painted c.args.self.now c.compose_row.new.into c.args.size.width c.args.size.height c.args.y c.start-from.result k _
     (omega arith) (omega (arith, c.compose_row.ensures.count)) (omega arith) (omega arith)
-    (λ x h. c.compose_row.ensures.values x (rw c.row.ensures.length h)
-    ∙ ap (λ f. shown f (slice_index c.row-2.result.now x)) (ap (λ row. slice_index row x) c.row.ensures.pixels ∙ row-pixel c.args.foreground.now c.args.size.width x c.args.y h)
-    ∙ ap (λ b. shown (pixel_at c.args.size.width c.args.foreground.now x c.args.y) b)
-    (ap (λ row. slice_index row x) c.row-2.ensures.pixels ∙ row-pixel c.args.background.now c.args.size.width x c.args.y h)))
+    (λ x h. c.compose_row.ensures.values x (rw c.requires.foreground h)))
