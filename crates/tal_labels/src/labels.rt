@@ -66,7 +66,13 @@ pub fn full_name(alloc: Global, scope: &[u8], name: &[u8]) -> Result<Vec<u8>, Al
     ensures { IfOk result (λ bytes. bytes.items ≡ full_name_in scope.now name.now) }
 {
     match name {
-        [b'&' | SLASH, rest @ ..] => [scope, &[SLASH], rest].as_slice().concat(alloc),
+        [b'&' | SLASH, rest @ ..] => {
+            let mut bytes = Vec::with_capacity(alloc, scope.len() + 1 + rest.len())?;
+            bytes.extend_from_slice(scope)?;
+            bytes.push(SLASH)?;
+            bytes.extend_from_slice(rest)?;
+            Ok(bytes)
+        }
         _ => Vec::from_slice(alloc, name),
     }
 }
