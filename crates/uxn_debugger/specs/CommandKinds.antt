@@ -1,10 +1,13 @@
 -- The names of what can be wrong with a line of commands, as they are printed (profile).
-use denote.Enum.Declared.{tag_of}
-use Rattle.std.specs.Prelude.{ℕ, List, [], map, slice_index_or}
-use Rattle.uxn_debugger.specs.contracts.command.CommandKind.{the_type}
+use Rattle.std.specs.Prelude.{ℕ, List, codes}
 use Rattle.uxn_debugger.specs.declared.command.CommandKind.{CommandKind}
-use Rattle.uxn_debugger.specs.declared.command.TheConstants.{KIND_NAMES}
+use Rattle.uxn_debugger.specs.declared.command.CommandKind.TheVariants as kind
 
--- that of the kind's place among the kinds
 abbrev pub command_kind_name : CommandKind → List ℕ
-command_kind_name kind = slice_index_or (map (λ name. name.now) KIND_NAMES) (tag_of the_type kind) []
+command_kind_name kind.Unknown = codes "Unknown"
+command_kind_name kind.BadValue = codes "BadValue"
+command_kind_name kind.NoSuchLabel = codes "NoSuchLabel"
+command_kind_name kind.Missing = codes "Missing"
+command_kind_name kind.Extra = codes "Extra"
+command_kind_name kind.ManyCommands = codes "ManyCommands"
+command_kind_name kind.LongCommands = codes "LongCommands"

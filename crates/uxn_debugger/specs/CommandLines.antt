@@ -1,11 +1,13 @@
 -- What a line of commands means (profile), a row for each first word.
-use Rattle.std.specs.Prelude.{ℕ, ◌&&◌, nat_lt, if◌then◌else◌, List, [], ◌∷◌, drop, length}
+use Rattle.std.specs.Prelude.{ℕ, ◌&&◌, nat_lt, if◌then◌else◌, List, [], ◌∷◌, codes, drop, length}
 use Rattle.std.specs.Prelude.{Option, Some, None, option_map, Result, Ok, Err}
 use Rattle.std.specs.Option.{ok_or}
 use Rattle.uxn_limits.specs.declared.limits.TheConstants.{MOST_STEPS, MOST_MOMENTS, MOST_PRINTED}
+use Rattle.text_lines.specs.declared.row.Counts.TheVariants.{Exactly}
+use Rattle.text_lines.specs.Named.{named}
 use Rattle.text_lines.specs.Numbers.{begins_with, number_within}
 use Rattle.text_lines.specs.Reading.{Line, made}
-use Rattle.text_lines.specs.Rows.{fault_named, keyword_of, line_by}
+use Rattle.text_lines.specs.Rows.{Rows, fault_named, keyword_of, line_by}
 use Rattle.tal_words.specs.declared.name.Label.{Label}
 use Rattle.tal_words.specs.Digits.{is_short_number, number_of_digits}
 use Rattle.tal_words.specs.Labels.{address_named}
@@ -13,7 +15,6 @@ use Rattle.uxn_debugger.specs.declared.command.DebugCommand.{DebugCommand}
 use Rattle.uxn_debugger.specs.declared.command.DebugCommand.TheVariants.{Break, Delete, Run, Step, Back, Stacks, Mem, PortPage, Here}
 use Rattle.uxn_debugger.specs.declared.command.CommandKind.{CommandKind}
 use Rattle.uxn_debugger.specs.declared.command.CommandKind.TheVariants.{Unknown, BadValue, NoSuchLabel, Missing, Extra}
-use Rattle.uxn_debugger.specs.declared.command_line.TheConstants.{ROWS}
 use Rattle.uxn_debugger.specs.declared.command_line.Keyword.{Keyword}
 use Rattle.uxn_debugger.specs.declared.command_line.Keyword.TheVariants as word
 
@@ -55,7 +56,21 @@ command_of labels word.Mem (a ∷ n ∷ more) = memory_command (address_in label
 command_of labels word.Ports values = Ok PortPage
 command_of labels _ values = Err BadValue
 
+-- the lines of commands
+abbrev pub command_rows : Rows Keyword
+command_rows =
+    named (codes "break") (Exactly 1, word.Break) ∷
+    named (codes "delete") (Exactly 1, word.Delete) ∷
+    named (codes "run") (Exactly 0, word.Run) ∷
+    named (codes "step") (Exactly 1, word.Step) ∷
+    named (codes "back") (Exactly 1, word.Back) ∷
+    named (codes "where") (Exactly 0, word.Where) ∷
+    named (codes "stacks") (Exactly 0, word.Stacks) ∷
+    named (codes "mem") (Exactly 2, word.Mem) ∷
+    named (codes "ports") (Exactly 0, word.Ports) ∷
+    []
+
 -- the command that the words of a line give, or what is wrong with them; a line without words or with `#` before its
 -- first gives none
 unfoldable pub command_line_of : List Label → List (List ℕ) → Line DebugCommand CommandKind
-command_line_of labels words = line_by (fault_named Unknown Missing Extra) (command_of labels) (keyword_of ROWS words)
+command_line_of labels words = line_by (fault_named Unknown Missing Extra) (command_of labels) (keyword_of command_rows words)

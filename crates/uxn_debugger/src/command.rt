@@ -46,17 +46,6 @@ pub enum CommandKind {
     LongCommands,
 }
 
-/// The names of the kinds, in their order.
-pub const KIND_NAMES: [&str; 7] = [
-    "Unknown",
-    "BadValue",
-    "NoSuchLabel",
-    "Missing",
-    "Extra",
-    "ManyCommands",
-    "LongCommands",
-];
-
 impl CommandKind {
     ghost use Rattle.uxn_debugger.specs.CommandKinds.{command_kind_name};
 
@@ -64,7 +53,15 @@ impl CommandKind {
     pub fn name(self) -> &'static str
         ensures { result.now ≡ command_kind_name self }
     {
-        KIND_NAMES[self as usize]
+        match self {
+            CommandKind::Unknown => "Unknown",
+            CommandKind::BadValue => "BadValue",
+            CommandKind::NoSuchLabel => "NoSuchLabel",
+            CommandKind::Missing => "Missing",
+            CommandKind::Extra => "Extra",
+            CommandKind::ManyCommands => "ManyCommands",
+            CommandKind::LongCommands => "LongCommands",
+        }
     }
 }
 

@@ -3,9 +3,8 @@
 ghost use Rattle.std.specs.Prelude.{◌≡◌, ◌<◌, ◌≤◌, ◌^◌, IfOk};
 ghost use Rattle.text_lines.specs.Lines.{words_of};
 ghost use Rattle.text_lines.specs.Named.{named_in};
-ghost use Rattle.uxn_debugger.specs.declared.command_line.TheConstants.{ROWS};
 ghost use Rattle.uxn_debugger.specs.declared.command_line.Keyword.TheVariants.{Mem};
-ghost use Rattle.uxn_debugger.specs.CommandLines.{address_in, address_of_values, command_line_of, command_of, count_of_values};
+ghost use Rattle.uxn_debugger.specs.CommandLines.{address_in, address_of_values, command_line_of, command_of, command_rows, count_of_values};
 
 use crate::command::{CommandKind, DebugCommand};
 use tal_symbols::{Label, address_of};
@@ -42,7 +41,7 @@ pub(crate) static ROWS: [Row<Keyword>; 9] = [
 
 // The lines of commands.
 pub(crate) fn rows() -> &'static [Row<Keyword>]
-    ensures { named_in result.now ≡ ROWS }
+    ensures { named_in result.now ≡ command_rows }
 {
     ROWS.as_slice()
 }
