@@ -45,7 +45,7 @@ AARCH64 = Machine(
     flags=("-fno-pic", "-mno-outline-atomics"),
     system="linux_aarch64.c",
     linker="ld.lld",
-    link=("-static", "--build-id=none", "-z", "noexecstack", "-z", "separate-code"),
+    link=("-static", "--build-id=none", "-z", "noexecstack"),
 )
 # Memory and tables of 64 bits need a late engine; a table is left out, since the program calls no function by a pointer. The stack
 # lies first: what is too deep for it leaves the memory, and is trapped.

@@ -28,6 +28,11 @@ i64 write(int file, const void *from, u64 size) {
     return result(system_write(file, from, size));
 }
 
+// By this name the program's start says what is wrong with the processor.
+i64 __write(int file, const void *from, u64 size) {
+    return write(file, from, size);
+}
+
 int open(const char *path, int flags, ...) {
     int mode = 0;
     if (flags & OPEN_CREATE) {
