@@ -109,12 +109,12 @@ def assemble(path: str, rom: str) -> int:
         if done.status:
             print(shown(mirror.line(done.line)) or f"uxnasm: uxn ended with {done.status}", file=sys.stderr)
             return done.status
-        data, labels = (files.read(os.path.join(folder, name), files.MADE) for name in made)
-    for name, content in ((rom, data), (f"{rom}.sym", labels)):
-        files.write(name, content)
-    size = len(data)
+        size = len(data := files.read(os.path.join(folder, made[0]), files.ROM))
+        files.write(rom, data)
+        files.move(os.path.join(folder, made[1]), f"{rom}.sym")
+        labels = symbols.count(files.parts(os.path.join(folder, made[1])))
     print(
-        f"Assembled {rom} in {size} bytes({size / 652.80:.2f}% used), {len(symbols.read(labels))} labels,"
+        f"Assembled {rom} in {size} bytes({size / 652.80:.2f}% used), {labels} labels,"
         f" {mirror.macros} macros."
     )
     return 0
