@@ -141,12 +141,11 @@ def input_of_call() -> bytes:
 
 def play(rom: str, arguments: list[bytes]) -> int:
     """Runs a ROM with arguments, the standard input and the files of the current folder, and answers its status."""
-    data = files.read(rom, files.ROM)
     files.look_at_folder(".")
     uxn = program.path_of_uxn()
     with attached.scratch_folder("uxncli") as folder:
         files.link(os.getcwd(), os.path.join(folder, "files"))
-        files.put(os.path.join(folder, "rom"), data)
+        files.copy_file(rom, os.path.join(folder, "rom"), files.ROM)
         files.put(os.path.join(folder, "script"), script_of(arguments, input_of_call()).encode("ascii"))
         options = ["--script", "script", "--root", "files", "--budget", str(MOST_BUDGET)]
         return attached.call([uxn, "play", "rom", "--rom", *options], folder)
