@@ -139,7 +139,7 @@ def fill(rng: random.Random, world: World, sources: list[bytes]) -> None:
         "y.sym": mutated(rng, b"\x01\x00main\0\x01\x02main/a\0"),
         "frames": mutated(rng, PICTURES * 2),
         "samples": rng.randbytes(rng.choice((0, 3, 4000))),
-        "setup": mutated(rng, b"machine game.tal\nmachine game.tal\nscript s.script\nturns 10\n"),
+        "setup": mutated(rng, b"machine game.tal\nmachine game.tal\nscript s.script\nturn 2 10\n"),
         "root/notes": b"some\n",
         "uxn-test.toml": rng.choice((SETTINGS, mutated(rng, SETTINGS))),
         "tests/one.script": mutated(rng, SCRIPT),
@@ -245,20 +245,27 @@ def call_of(rng: random.Random, world: World) -> Call:
     return Call([name, *words], closed, stdin)
 
 
-def fault_of(call: Call, world: World, before: dict[str, tuple[object, ...]]) -> str:
-    """Makes a call, and says what of it may not be; empty where all is well."""
-    folder = EXTRAS + ("/dropins" if call.words[0] in ("uxnasm", "uxncli") else "/bin")
-    words = [os.fsencode(word) for word in [os.path.join(folder, call.words[0]), *call.words[1:]]]
+@dataclass
+class Ended:
+    """How a call ended: its status (None if it did not in time), what it said on both outputs, and its memory in KiB."""
+
+    status: int | None
+    said: bytes
+    memory: int = 0
+
+
+def ended(words: list[str], world: World, stdin: bytes = b"", closed: tuple[int, ...] = ()) -> Ended:
+    """Makes a call in the folder of a world, with some standard streams closed."""
 
     def prepare() -> None:
-        for number in call.closed:
+        for number in closed:
             os.close(number)
 
     with tempfile.TemporaryFile() as given, tempfile.TemporaryFile() as out, tempfile.TemporaryFile() as err:
-        given.write(call.stdin)
+        given.write(stdin)
         given.seek(0)
         started = subprocess.Popen(
-            words,
+            list(map(os.fsencode, words)),
             cwd=world.folder,
             env=world.environment,
             stdin=given,
@@ -268,23 +275,28 @@ def fault_of(call: Call, world: World, before: dict[str, tuple[object, ...]]) ->
             start_new_session=True,
         )
         end = time.monotonic() + SECONDS
-        while True:
-            process, status, usage = os.wait4(started.pid, os.WNOHANG)
-            if process:
-                break
+        while not (waited := os.wait4(started.pid, os.WNOHANG))[0]:
             if time.monotonic() > end:
                 os.killpg(started.pid, signal.SIGKILL)
-                os.wait4(started.pid, 0)
-                return "it did not end"
+                started.wait()
+                return Ended(None, _read(out) + _read(err))
             time.sleep(0.005)
-        started.returncode = os.waitstatus_to_exitcode(status)
-        said = _read(out) + _read(err)
-    if any(text in said for text in UNCAUGHT):
-        return f"an uncaught exception: {said[-1500:].decode(errors='replace')}"
-    if started.returncode < 0:
-        return f"it was ended by signal {-started.returncode}"
-    if usage.ru_maxrss > MEMORY:
-        return f"it took {usage.ru_maxrss // 1024} MiB"
+        started.returncode = os.waitstatus_to_exitcode(waited[1])
+        return Ended(started.returncode, _read(out) + _read(err), waited[2].ru_maxrss)
+
+
+def fault_of(call: Call, world: World, before: dict[str, tuple[object, ...]]) -> str:
+    """Makes a call, and says what of it may not be; empty where all is well."""
+    folder = EXTRAS + ("/dropins" if call.words[0] in ("uxnasm", "uxncli") else "/bin")
+    done = ended([os.path.join(folder, call.words[0]), *call.words[1:]], world, call.stdin, call.closed)
+    if done.status is None:
+        return "it did not end"
+    if any(text in done.said for text in UNCAUGHT):
+        return f"an uncaught exception: {done.said[-1500:].decode(errors='replace')}"
+    if done.status < 0:
+        return f"it was ended by signal {-done.status}"
+    if done.memory > MEMORY:
+        return f"it took {done.memory // 1024} MiB"
     if state_of(world.outside) != before:
         return "a file outside of its folder was changed"
     return ""

@@ -479,9 +479,8 @@ class Programs(Debug):
         self.assertIn("the status 3", shown[4])
 
     def test_a_run_that_cannot_be_finished(self) -> None:
-        """A file that cannot be read ends the call early with 136, and no log is written: the session ends before."""
-        os.mkdir(self.path("root"))
-        os.symlink("loop", self.path("root/loop"))
+        """A folder that cannot be listed ends the call early with 136, and no log is written: the session ends before."""
+        self.write("root/loop/\udcff", b"")
         self.write(
             "a.tal",
             ";on-key #80 DEO2 #01 BRK @on-key ;name #a8 DEO2 #0010 #aa DEO2 ;to #ac DEO2 BRK" ' @name "loop 00 @to',

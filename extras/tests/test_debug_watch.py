@@ -93,7 +93,7 @@ class Far(Debug):
     def test_a_run_that_ends_early_or_by_itself(self) -> None:
         """Its end is no stop, and a session that was shortened is followed as far as it goes."""
         self.write("r/x", "")
-        os.symlink("loop", self.path("r/loop"))
+        self.write("r/loop/\udcff", b"")
         loop = "#0000 &loop INC2 DUP2 ;y STA2 DUP2 #3000 NEQ2 ?&loop POP2"
         key = ";name #a8 DEO2 #0010 #aa DEO2 ;to #ac DEO2"
         end = '@name "loop 00 @to $10 @x 00 @y 0000'

@@ -4,6 +4,7 @@ import pty
 import shutil
 import signal
 import subprocess
+import tempfile
 import time
 
 from support import EXAMPLES, EXTRAS, ToolTest, needs
@@ -41,9 +42,11 @@ class DropinTest(ToolTest):
     def setUp(self) -> None:
         super().setUp()
         self.environment["PATH"] = os.pathsep.join([os.path.join(EXTRAS, "dropins"), self.environment["PATH"]])
-        # uxncli refuses a folder with a link out of it.
-        os.unlink(self.path(".bin/uxn"))
-        self.environment["UXN"] = self.program
+        # uxncli refuses a folder with a link out of it, so `uxn` lies elsewhere.
+        tools = tempfile.mkdtemp(prefix="uxn-test-")
+        self.addCleanup(shutil.rmtree, tools)
+        os.rename(self.path(".bin/uxn"), os.path.join(tools, "uxn"))
+        self.environment["PATH"] = os.pathsep.join([tools, self.environment["PATH"]])
 
 
 @needs("make", "cmp", "diff")

@@ -266,7 +266,7 @@ class FromWithin(SandboxTest):
     def test_18_limits_hold_for_what_it_starts(self) -> None:
         limits = sandbox.Limits(1, 1 << 30, 1 << 20, 10, 1 << 30, 1 << 20)
         self.assertEqual(self.within("while :; do :; done", limits).returncode, 152)
-        self.within("while echo 0123456789abcdef; do :; done >big", sandbox.Limits(20, 1 << 30, 1 << 16, 10))
+        self.within("while echo 0123456789abcdef; do :; done >big", sandbox.Limits(20, 1 << 30, 1 << 16, 10, 1 << 30, 1 << 20))
         self.assertEqual(os.path.getsize(self.path("work/big")), 1 << 16)
 
 

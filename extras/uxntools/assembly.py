@@ -71,7 +71,7 @@ class Fault(NamedTuple):
 
 @dataclass(frozen=True)
 class Assembled:
-    """What came of a source: a fault, or its ROM and its symbol file."""
+    """What came of a source: a fault, or its ROM and the digest of its symbol file."""
 
     fault: Fault | None
     rom: bytes = b""
@@ -115,8 +115,8 @@ def assemble(path: str, read: Callable[[str], bytes] = source.read) -> Assembled
         _copy(path, name, folder, read)
         done = program.call("asm", name, "--out", ROM, "--symbols", SYMBOLS, folder=folder, seconds=60)
         if done.status == 0:
-            made = [files.read(os.path.join(folder, one), files.MADE) for one in (ROM, SYMBOLS)]
-            return Assembled(None, *made)
+            rom = files.read(os.path.join(folder, ROM), files.ROM)
+            return Assembled(None, rom, files.digest(os.path.join(folder, SYMBOLS)))
     found = REFUSAL.fullmatch(done.err)
     if done.status != 131 or not found:
         raise Failure(f"{path}: uxn asm ended with {done.status}: {done.line}", done.status)

@@ -109,12 +109,12 @@ def assemble(path: str, rom: str) -> int:
         if done.status:
             print(shown(mirror.line(done.line)) or f"uxnasm: uxn ended with {done.status}", file=sys.stderr)
             return done.status
-        data, labels = (files.read(os.path.join(folder, name), files.MADE) for name in made)
-    for name, content in ((rom, data), (f"{rom}.sym", labels)):
-        files.write(name, content)
-    size = len(data)
+        size = len(data := files.read(os.path.join(folder, made[0]), files.ROM))
+        files.write(rom, data)
+        files.move(os.path.join(folder, made[1]), f"{rom}.sym")
+        labels = symbols.count(files.parts(os.path.join(folder, made[1])))
     print(
-        f"Assembled {rom} in {size} bytes({size / 652.80:.2f}% used), {len(symbols.read(labels))} labels,"
+        f"Assembled {rom} in {size} bytes({size / 652.80:.2f}% used), {labels} labels,"
         f" {mirror.macros} macros."
     )
     return 0
@@ -141,12 +141,11 @@ def input_of_call() -> bytes:
 
 def play(rom: str, arguments: list[bytes]) -> int:
     """Runs a ROM with arguments, the standard input and the files of the current folder, and answers its status."""
-    data = files.read(rom, files.ROM)
     files.look_at_folder(".")
     uxn = program.path_of_uxn()
     with attached.scratch_folder("uxncli") as folder:
         files.link(os.getcwd(), os.path.join(folder, "files"))
-        files.put(os.path.join(folder, "rom"), data)
+        files.copy_file(rom, os.path.join(folder, "rom"), files.ROM)
         files.put(os.path.join(folder, "script"), script_of(arguments, input_of_call()).encode("ascii"))
         options = ["--script", "script", "--root", "files", "--budget", str(MOST_BUDGET)]
         return attached.call([uxn, "play", "rom", "--rom", *options], folder)

@@ -7,6 +7,7 @@ With `beneath` that folder is trusted, and the whole path lies in it."""
 from __future__ import annotations
 
 import errno
+import hashlib
 import os
 import shutil
 import sqlite3
@@ -44,8 +45,8 @@ SYMBOLS = Kind(16_777_216, "Long", 134)
 SETTINGS = Kind(MEBIBYTE)
 # An output of a run: pictures, samples, a text, a log, or a file of its root.
 OUTPUT = Kind(64 * MEBIBYTE)
-# What `uxn asm` makes of the longest source: a listing, or a symbol file of long names.
-MADE = Kind(512 * MEBIBYTE)
+# A listing or a symbol file that `uxn asm` makes. Of the longest names it makes longer ones.
+MADE = Kind(64 * MEBIBYTE)
 
 
 class Refused(OSError):
@@ -101,6 +102,12 @@ def _read_handle(handle: int, path: str, kind: Kind) -> bytes:
         parts.append(part)
         left -= len(part)
     return parts[0] if len(parts) == 1 else b"".join(parts)
+
+
+def digest(path: str) -> bytes:
+    """The digest of a file, of any size, in a folder that the tool has made for itself."""
+    with open(path, "rb") as file:
+        return hashlib.file_digest(file, "sha256").digest()
 
 
 def read_start(path: str, count: int) -> bytes:
@@ -262,11 +269,16 @@ def _write_device(path: str, data: bytes) -> None:
         file.write(data)
 
 
-def move(made: str, path: str) -> None:
-    """Writes a file, as `write` does, that has the bytes of one in a folder that the tool has made for itself."""
+def parts(made: str) -> Iterator[bytes]:
+    """The bytes of a file, of any size, in a folder that the tool has made for itself, part by part."""
     _refuse_kind(made, os.lstat(made).st_mode)
     with open(made, "rb") as file:
-        _write(path, iter(lambda: file.read(MEBIBYTE), b""), None)
+        yield from iter(lambda: file.read(MEBIBYTE), b"")
+
+
+def move(made: str, path: str) -> None:
+    """Writes a file, as `write` does, that has the bytes of one in a folder that the tool has made for itself."""
+    _write(path, parts(made), None)
 
 
 def put(path: str, data: bytes) -> None:

@@ -33,7 +33,7 @@ class Row:
 
 
 def has_includes(path: str) -> bool:
-    return any(source.included(path, word.text) for word in source.words(source.read(path)))
+    return any(source.included(path, word) for word in source.include_words(source.read(path)))
 
 
 def read(listing: bytes, path: str, folder: str = "") -> list[Row]:

@@ -11,6 +11,8 @@ from uxntools import files
 # How many files and bytes a source is read with; `uxn` takes 257, and 4,194,304.
 MOST_FILES, MOST_BYTES = 600, 8_388_608
 LONGEST_WORD = 255
+# A word that opens, nests or closes a comment, or may include a file.
+NOTED = re.compile(rb"(?<![^\x00-\x20])(?:\([^\x00-\x20]*|\)(?![^\x00-\x20])|~[^\x00-\x20]+)")
 WORD = re.compile(rb"[^\x00-\x20]+")
 
 
@@ -85,6 +87,19 @@ def flat_words(source: str, path: str | None = None, depth: int = 15) -> Iterato
             yield word
 
 
+def include_words(data: bytes) -> Iterator[bytes]:
+    """The words of a source that include a file, without its comments."""
+    depth = 0
+    for found in NOTED.finditer(data) if b"~" in data else ():
+        text = found.group()
+        if depth:
+            depth += (text == b"(") - (text == b")")
+        elif text[:1] == b"(":
+            depth = 1
+        elif text[:1] == b"~":
+            yield text
+
+
 def closure(path: str, read: Callable[[str], bytes] = read) -> Iterator[tuple[str, bytes | OSError]]:
     """A source and the files that it includes, each once, in order of reading, with its bytes or why it cannot be
     read. Past what `uxn` takes it ends early."""
@@ -97,8 +112,8 @@ def closure(path: str, read: Callable[[str], bytes] = read) -> Iterator[tuple[st
             continue
         yield name, data
         size += len(data)
-        for word in words(data) if b"~" in data and size <= MOST_BYTES else ():
-            inner = included(path, word.text)
+        for word in include_words(data) if size <= MOST_BYTES else ():
+            inner = included(path, word)
             if inner and inner not in known and len(found) < MOST_FILES:
                 found.append(inner)
                 known.add(inner)

@@ -2,12 +2,17 @@
 from __future__ import annotations
 
 from bisect import bisect_right
+from collections.abc import Iterable
 from dataclasses import dataclass, field
 
 from uxntools.cli import Failure
 
 
-@dataclass(frozen=True)
+# A source has no more words, and so no more labels.
+MOST_LABELS = 1_000_000
+
+
+@dataclass(frozen=True, slots=True)
 class Label:
     address: int
     name: str
@@ -20,8 +25,27 @@ def read(data: bytes) -> list[Label]:
         end = data.find(b"\0", at + 2)
         if end < 0:
             raise Failure(f"the symbol file is torn at byte {at}")
+        if len(labels) == MOST_LABELS:
+            raise Failure(f"the symbol file has more than {MOST_LABELS:,} labels")
         labels.append(Label(int.from_bytes(data[at : at + 2], "big"), data[at + 2 : end].decode("latin-1")))
         at = end + 1
+    return labels
+
+
+def count(parts: Iterable[bytes]) -> int:
+    """How many labels a symbol file has, which comes in parts: a zero byte ends each, past its address."""
+    labels, skip = 0, 2
+    for part in parts:
+        at = 0
+        while at < len(part):
+            step = min(skip, len(part) - at)
+            at, skip = at + step, skip - step
+            if skip:
+                break
+            end = part.find(b"\0", at)
+            if end < 0:
+                break
+            labels, at, skip = labels + 1, end + 1, 2
     return labels
 
 

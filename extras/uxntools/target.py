@@ -275,8 +275,8 @@ class Workspace:
         if path is None:
             return Labels(symbols.read(made))
         try:
-            return Labels(symbols.read(_data(self.path(path)) if is_plain(path) else b""))
-        except Failure:
+            return Labels(symbols.read(files.read(self.path(path), files.SYMBOLS) if is_plain(path) else b""))
+        except (Failure, OSError):
             return Labels([])
 
     def _source_program(self) -> Program:

@@ -154,7 +154,8 @@ FIXED = {
     "Torn": "The symbol file ends within an entry: two bytes of address, the name, and a zero byte belong to each.",
     "NoName": "An entry of the symbol file has an empty name.",
     "BadByte": "A name in the symbol file has a byte up to 20.",
-    "Long": "A symbol file has at most 16,777,216 bytes.",
+    "Long": "A symbol file has at most 16,777,216 bytes. `asm --symbols` writes longer ones of a source with very many "
+    "or very long names.",
 }
 ALONE = {
     "Unknown": "The first word of the line is none of its kind; in a script of version 1 `expect` is none.",

@@ -132,11 +132,7 @@ class Digests:
 
 def _included(path: str, data: bytes) -> list[str]:
     """The paths of the include words of a source, as they stand there."""
-    return (
-        [os.fsdecode(word.text[1:]) for word in source.words(data) if source.included(path, word.text)]
-        if b"~" in data
-        else []
-    )
+    return [os.fsdecode(word[1:]) for word in source.include_words(data) if source.included(path, word)]
 
 
 class Keys:
