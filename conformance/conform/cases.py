@@ -288,6 +288,10 @@ def immediate_jump_cases(opcode: int) -> Iterator[Case]:
             data = bytes([opcode]) + ((target - at - 3) & 0xFFFF).to_bytes(2, "big") + b"\x80\x22" + TO_SAVE
             code = join(poke(at, data), poke(target, b"\1\1\1\x80\xdd" + TO_SAVE))
             yield Case(f"{word} from {at:04x} to {target:04x}{note}", join(code, below, f"!at-{at:04x}"))
+        for distance in (0x0080, 0x00FF, 0x0100, 0x0101, 0xFF00, 0xFF7F, 0xFF80):
+            data = bytes([opcode]) + distance.to_bytes(2, "big") + b"\x80\x22" + TO_SAVE
+            code = join(poke(0xB0F0, data), poke((0xB0F3 + distance) & 0xFFFF, b"\1\1\1\x80\xdd" + TO_SAVE))
+            yield Case(f"{word} by {distance:04x}{note}", join(code, below, "!at-b0f0"))
         for number in range(1, 4):
             other = pops(number, opcode == 0x60)
             yield Case(

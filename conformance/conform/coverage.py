@@ -113,12 +113,45 @@ def missing(found: Coverage) -> list[str]:
     return rows + [f"the fault {kind}" for kind in fault_kinds() if not found.faults[kind]]
 
 
+CLAIMS = """
+## What the suite claims to find
+
+A bug is found if it changes what one of these lines says, with the places of the command that the
+line needs. With `{events}`, `{frames}`, `{samples}` and `--profile` all lines hold.
+
+- **Processor**: each of the 256 instructions: its result over edge values, what it takes and leaves
+  on both stacks, wraps of both pointers, of addresses and of the program counter, its jumps.
+- **System and console**: pointers, state and status, stored ports, the debug text, fills and copies
+  in and between all banks, their wraps, records of unknown operations and banks, arguments, input,
+  its types and its end.
+- **Screen**: sizes, both layers, pixels, fills, tiles of one and two bits, all blends, flips, auto,
+  rows of tiles, edges of the screen, wraps of addresses, colours, the vector.
+- **Sound**: pitches, lengths, envelopes, volumes, repeats, ends, position and output, vectors.
+- **Controller, mouse, date and time**: each button, player, key and part, at edges.
+- **Files**: reads, writes, appends, stats, listings, deletes, both devices, names of 1 to 253
+  bytes, names that lead out.
+- **Language**: each blank, number, name, reserved sign, rune, scope, comment, text, lambda, macro
+  and include; addresses, distances, limits; each kind of fault; the ROM and the symbol file.
+- **Disassembly**: the text of ROMs with and without a symbol file.
+
+## What it does not show
+
+- An instruction that is wrong for single values that are no edges. Random programs find these.
+- Stores to places in memory that no sum and no program reads.
+- Speed, windows, real keyboards, real sound, a clock that runs, and more than some 1,200 frames.
+- File names beyond 253 bytes or of other bytes than printable ASCII, and files beyond 64 kilobytes.
+- The texts of messages, except a word and the form that the README names.
+- Sources of more than four megabytes, and what a limit is where it is greater than `uxn`'s.
+- Bugs that show only after several devices act together in an unusual order.
+"""
+
+
 def page(found: Coverage) -> str:
     lines = [
         "# Coverage of the suite",
         "",
-        "For whoever adds a test: how many tests show each instruction, each port and each kind of fault.",
-        "After reading it you know which of them no test, or only few tests, show.",
+        "For authors of emulators, assemblers and tests: what the suite claims to find, and what not.",
+        "After this page you know how many tests show each instruction, each port and each kind of fault.",
         "",
         "`conformance/coverage` writes this page from runs of the second emulator, and the gate holds it to",
         "them. A test counts once for a row. What runs the cases of the processor's tests does not count.",
@@ -140,5 +173,6 @@ def page(found: Coverage) -> str:
         "## Kinds of faults",
         "",
         *listed([(kind, found.faults[kind]) for kind in fault_kinds()]),
+        *CLAIMS.rstrip().split("\n"),
     ]
     return "\n".join(lines) + "\n"

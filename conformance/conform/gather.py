@@ -3,11 +3,13 @@ from __future__ import annotations
 
 import fnmatch
 import glob
+import itertools
 import json
 import os
+from collections.abc import Iterator
 from typing import Any
 
-from conform import cases, from_cases, language, scripts
+from conform import cases, from_cases, language, scripts, sweeps
 from conform.drafts import Draft
 from conform.instructions import MODES, NAMES, name_of, modes_of
 from conform.tests import TOP, Tree, tree_of
@@ -55,7 +57,16 @@ def processor_drafts() -> list[Draft]:
         drafts.append(processor_draft(name, shows, "Uxntal opcodes: modes", chosen, True))
     chosen = [case for found in by_opcode.values() for case in cases.some(found, 2)]
     drafts.append(processor_draft("all", "all instructions but BRK, each in two cases", "Uxntal opcodes", chosen, True))
-    return drafts
+    return drafts + list(sweep_drafts())
+
+
+def sweep_drafts() -> Iterator[Draft]:
+    """A test of each arithmetic instruction over many values."""
+    for name, is_short in itertools.product(sweeps.OPERATIONS, (False, True)):
+        word = f"{name}2" if is_short else name
+        shows = f"{word} over {'65,536 pairs of shorts' if is_short else 'all pairs of bytes'}"
+        source = sweeps.source_of(name, is_short).encode()
+        yield Draft(f"processor/sweep-{word}", shows, f"Uxntal opcodes: {name}", "processor", source, ["console"])
 
 
 def stdin_of(events: list[Any]) -> bytes | None:

@@ -277,6 +277,15 @@ def ended(draft: Draft, tools: Tools, suite: str) -> Run:
     return found
 
 
+def is_plain(draft: Draft, run: Run, tools: Tools, suite: str) -> bool:
+    """Whether a test gives the same where the end of the input comes before its last picture."""
+    events = run.test.events or []
+    shots = events[-1:] if run.test.has_one_picture else []
+    ended_test = replace(run.test, events=[*events[: len(events) - len(shots)], ["end"], *shots])
+    got = run_with(ended_test, uxn_command(), tools, suite)
+    return replace(run, got=got).gives() == run.gives()
+
+
 def make_emulator_test(draft: Draft, tools: Tools, suite: str) -> Test | None:
     """A ROM with what comes out of its run; none where a picture or samples would be too large for the suite."""
     run = ended(draft, tools, suite)
@@ -285,6 +294,8 @@ def make_emulator_test(draft: Draft, tools: Tools, suite: str) -> Test | None:
         for name in (test.source, test.rom):
             os.remove(os.path.join(suite, name or ""))
         return None
+    if test.events is not None and test.has_few_events:
+        test.plain = is_plain(draft, run, tools, suite)
     keep_outputs(test, draft, outcome, suite)
     test.lines = "cases" if draft.by_cases else lines_of_output(outcome.out, run.trace, run.listing) or None
     return test

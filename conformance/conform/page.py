@@ -18,7 +18,7 @@ tr:last-child td { border-top: 2px solid #888; font-weight: 600 } .failed { colo
 details { border: 1px solid #ddd; border-left: 4px solid #b00020; border-radius: 4px; margin: .6em 0; padding: .4em .8em }
 summary { cursor: pointer } pre { background: #f6f6f6; padding: .6em; overflow-x: auto; white-space: pre-wrap; word-break: break-all }
 figure { display: inline-block; margin: .4em 1em .4em 0 } figcaption { font-size: .85em; color: #555 }
-figure img { image-rendering: pixelated; border: 1px solid #ccc; min-width: 96px; max-width: 100% }
+figure img { image-rendering: pixelated; border: 1px solid #ccc; min-width: 240px; max-width: 100% }
 .bar { display: flex; height: 14px; border-radius: 7px; overflow: hidden; background: #ddd } .bar span { display: block }
 """
 

@@ -102,7 +102,7 @@ def blank(rng: random.Random) -> str:
 def label_pieces(rng: random.Random, name: str, is_deep: bool) -> list[str]:
     """A label with sublabels and words."""
     pieces = ["@" + name]
-    pieces += [] if is_deep else [f"&{sub}" for sub in SUBLABELS]
+    pieces += [] if is_deep and name.split("/")[0] in LABELS else [f"&{sub}" for sub in SUBLABELS]
     if rng.random() < 0.3:
         sign = rng.choice(SIGNS)
         sub = f"{sign}sub-{rng.randrange(10**6)}"
@@ -139,7 +139,7 @@ def random_source(rng: random.Random, profile: bool = False) -> Source:
     for label in DEEP:
         pieces += label_pieces(rng, label, True)
     pieces += ["@main/more", "&tail", ";main/tail", *ends(rng)]
-    if rng.random() < 0.35:
+    if rng.random() < 0.25:
         faults = (*FAULTS, *PROFILE_FAULTS) if profile else FAULTS
         fault = rng.choice(("@" + rng.choice(SIGNS) + "x", "%" + rng.choice(SIGNS) + "x { }", rng.choice(faults), rng.choice(faults)))
         pieces.insert(rng.randrange(4, len(pieces)), fault)

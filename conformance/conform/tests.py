@@ -86,6 +86,8 @@ class Test:
     # The path of a source in the folder of its run, where that is not the name of its file.
     place: str | None = None
     twin: Twin | None = None
+    # Whether a test whose events are only the clock and the last picture is the same by its standard input, which ends.
+    plain: bool = False
     # Why a program does not end itself by a write of the state.
     endless: str | None = None
     want: Want = field(default_factory=Want)
@@ -107,9 +109,14 @@ class Test:
 
     @property
     def needs_events(self) -> bool:
-        """Whether it has events beside the clock at the start and the picture at the end."""
+        """Whether it has events beside the clock at the start and the picture at the end, or is not the same without."""
+        return self.events is not None and not self.plain
+
+    @property
+    def has_few_events(self) -> bool:
+        """Whether its events are only the clock at the start and the picture at the end."""
         rest = [event for event in self.events or [] if event[0] != "clock"]
-        return bool(rest[:-1] if self.has_one_picture else rest)
+        return not (rest[:-1] if self.has_one_picture else rest)
 
 
 def test_of(item: dict[str, Any]) -> Test:
