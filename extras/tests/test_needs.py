@@ -1,7 +1,7 @@
 """uxn-needs: a source and the files that it includes."""
 import os
 
-from support import EXAMPLES, TOP, ToolTest
+from support import EXAMPLES, TOP, ToolTest, needs
 
 PROGRAMS = os.path.join(TOP, "extras", "tests", "programs")
 
@@ -31,6 +31,7 @@ class Needs(ToolTest):
             self.succeed("uxn-needs", "src/main.tal", "main.rom"), "main.rom: src/main.tal src/a.tal src/b.tal\n"
         )
 
+    @needs("make")
     def test_make_reads_a_rule_with_blanks(self) -> None:
         self.write("a b.tal", "BRK")
         rule = self.succeed("uxn-needs", "a b.tal", "a b.rom")

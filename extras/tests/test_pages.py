@@ -3,7 +3,6 @@ from __future__ import annotations
 
 import os
 import re
-import subprocess
 
 from support import TOP, ToolTest
 
@@ -56,7 +55,6 @@ $ no_such_tool
 class PagesTest(ToolTest):
     def setUp(self) -> None:
         super().setUp()
-        subprocess.run(["git", "init", "-q", self.folder], check=True)
         self.write("crates.txt", "")
         with open(os.path.join(TOP, OPTIONS), encoding="utf-8") as file:
             self.write(OPTIONS, file.read())
@@ -142,7 +140,6 @@ past limits/long
 class LimitsTest(ToolTest):
     def setUp(self) -> None:
         super().setUp()
-        subprocess.run(["git", "init", "-q", self.folder], check=True)
         self.write("crates.txt", "")
         with open(os.path.join(TOP, OPTIONS), encoding="utf-8") as file:
             self.write(OPTIONS, file.read())

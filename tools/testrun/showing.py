@@ -40,7 +40,8 @@ class Screen:
             print(*result.lines, sep="\n")
         if result.failed or not self.is_terminal:
             counts = f"{result.passed} passed, {result.failed} failed"
-            print(f"[{len(self.results)} of {self.count}] {result.job.name}: {counts}, {result.ended - result.began:.1f} s", flush=True)
+            times = f"{result.ended - result.began:.1f} s, {result.processor:.1f} s of processors"
+            print(f"[{len(self.results)} of {self.count}] {result.job.name}: {counts}, {times}", flush=True)
         self.progress()
 
 
