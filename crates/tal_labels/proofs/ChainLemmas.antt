@@ -1,9 +1,9 @@
 -- Chains of indices, one hash at a time.
 use Rattle.tal_labels.proofs.Common.{◌≡◌, ℕ, ◌+◌, ◌-◌, ◌<◌, ◌≤◌, List, [], ◌∷◌, ◌++◌, length, get_or, sym, ◌∙◌, ap, arith, inl, inr, length-append, cases_lt, refl}
-use Rattle.std.proofs.Common.{set, get_or-set_same, get_or-set_other, subst, ◌%◌, replicate}
+use Rattle.std.proofs.Common.{set, get_or-set_same, get_or-set_other, subst, ◌%◌}
 use Rattle.std.proofs.Math.Seq.{get_or-append_seam}
 use Rattle.std.proofs.lemmas.Bool.{cases_eq}
-use Rattle.std.proofs.lemmas.List.{get_or_append_left, length-set, get_or-replicate, length-replicate}
+use Rattle.std.proofs.lemmas.List.{get_or_append_left, length-set}
 use Rattle.tal_labels.specs.Chains.{AreInChains, AreChained}
 
 before_end : (xs : List ℕ) (x i : ℕ) → i < length xs → get_or (xs ++ x ∷ []) i 0 ≡ get_or xs i 0

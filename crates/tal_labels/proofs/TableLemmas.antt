@@ -1,7 +1,6 @@
 -- Names that are kept without the scopes that they share, and how they are found.
 use Rattle.tal_labels.proofs.Common.{◌≡◌, ℕ, ◌+◌, ◌-◌, ◌<◌, ◌≤◌, ◌⊎◌, Bool, true, false, List, [], ◌∷◌, ◌++◌, length, get_or, sym, ◌∙◌, ap, arith, inl, inr}
-use Rattle.tal_labels.proofs.Common.{append-nil, take-append-drop, cases_lt, refl, map, take, drop, length-append, length-drop, append_assoc, map-append, length-map, AllByRecursion, bytes_at, Span}
-use Rattle.std.proofs.Common.{subst}
+use Rattle.tal_labels.proofs.Common.{append-nil, take-append-drop, cases_lt, refl, map, take, drop, length-append, length-drop, append_assoc, map-append, AllByRecursion, bytes_at, Span}
 use Rattle.std.proofs.Math.Seq.{take-append_seam, drop-append_seam}
 use Rattle.std.proofs.lemmas.Bool.{false_from_ne_true}
 use Rattle.std.proofs.lemmas.List.{drop-append-le, take-append-le, get_or-map}

@@ -1,4 +1,4 @@
-use Rattle.tal_labels.proofs.Common.{◌≡◌, ◌<◌, length, ◌∙◌, arith, ◌+◌, get_or}
+use Rattle.tal_labels.proofs.Common.{◌≡◌, ◌<◌, length, ◌∙◌, arith}
 use Rattle.std.proofs.Common.{rules, ◌%◌}
 use Rattle.std.proofs.lemmas.List.{get_or_read}
 use Rattle.tal_labels.proofs.ChainLemmas.{linked_when}

@@ -1,4 +1,4 @@
-use Rattle.tal_labels.proofs.Common.{◌≡◌, ◌<◌, ap, sym, ◌∙◌, arith, length, address_named, Some, None}
+use Rattle.tal_labels.proofs.Common.{◌≡◌, ◌<◌, ap, ◌∙◌, arith, length, address_named}
 use Rattle.std.specs.List.{position_or_len}
 use Rattle.std.specs.Str.{bytes_eq}
 use Rattle.tal_labels.proofs.IndexLemmas.{position-names_of, address-there, address-none, is_named}
