@@ -1,46 +1,46 @@
-use Rattle.tal_labels.proofs.Common.{◌≡◌, ℕ, Bool, false, List, [], ◌∷◌, ◌++◌, map, Option, None, refl, ◌∙◌, ap, arith, map-append, is_some, list_any}
-use Rattle.tal_labels.proofs.Common.{option_copied, address_named}
+-- Labels that are found by the places of their full names.
+use Rattle.tal_labels.proofs.Common.{◌≡◌, ℕ, Bool, List, [], ◌∷◌, length, Option, refl, arith, list_any, address_named, option_map, slice_get, ltb, ap, ◌∙◌, sym, false, None, Some, is_some, get_or, ◌<◌, ◌≤◌}
 use Rattle.std.specs.Global.{Vec}
+use Rattle.std.proofs.lemmas.List.Folds.{find_at}
+use Rattle.std.proofs.lemmas.Option.{slice_get_read, slice_get_past}
+use Rattle.std.specs.List.{position_or_len}
 use Rattle.std.specs.Str.{bytes_eq}
-use Rattle.std.specs.Map.{lookup}
-use Rattle.std.specs.Borrow.{Bor}
-use Rattle.std.specs.declared.hash.FoldHasher.{FoldHasher}
-use Rattle.std.specs.declared.hash.BuildHasherDefault.{BuildHasherDefault}
-use Rattle.indexmap.specs.IndexMap.{IndexMap, insert_entry}
-use Rattle.indexmap.proofs.CallerLemmas.{insert_entry-new}
-use Rattle.tal_labels.specs.Index.{labels_in}
 use Rattle.tal_words.specs.declared.name.Label.{Label}
+use Rattle.tal_labels.specs.Index.{names_of}
 
-abbrev pub Index : Type 0
-Index = IndexMap (Vec ℕ) ℕ (BuildHasherDefault FoldHasher)
+-- a label stands where its full name does
+abbrev pub is_named : List ℕ → Label → Bool
+is_named name label = bytes_eq name label.name
 
--- keys are equal by their bytes
-abbrev pub vec_eq : Vec ℕ → Vec ℕ → Bool
-vec_eq x y = bytes_eq x.items y.items
+pub position-names_of : (name : List ℕ) (labels : List Label) → position_or_len (bytes_eq name) (names_of labels) ≡ position_or_len (is_named name) labels
+position-names_of name [] = refl
+position-names_of name (label ∷ labels) = grind (arith, position-names_of name labels)
 
--- the label of an entry
-abbrev pub label_of_entry : Vec ℕ × ℕ → Label
-label_of_entry entry = record { name = entry.0.items; address = entry.1 }
+-- it is there where one of the labels has the name
+pub within-any : (name : List ℕ) (labels : List Label) → ltb (position_or_len (is_named name) labels) (length labels) ≡ list_any (is_named name) labels
+within-any name [] = refl
+within-any name (label ∷ labels) = grind (arith, within-any name labels)
 
--- what an index has at a name is the address of the label of that name
-pub lookup-named : (entries : List (Vec ℕ × ℕ)) (name : List ℕ) → lookup (λ key. bytes_eq name key.items) entries ≡ address_named (map label_of_entry entries) name
-lookup-named [] name = refl
-lookup-named (entry ∷ entries) name = grind (arith, lookup-named entries name)
+-- and its address is that of the name
+address-at : (name : List ℕ) (labels : List Label)
+    → address_named labels name ≡ option_map (λ label. label.address) (slice_get labels (position_or_len (is_named name) labels))
+address-at name labels = ap (option_map (λ label. label.address)) (find_at (is_named name) labels)
 
--- and it has something where the name is that of a label
-pub lookup-some : (entries : List (Vec ℕ × ℕ)) (name : List ℕ) → is_some (lookup (λ key. bytes_eq name key.items) entries) ≡ list_any (λ label. bytes_eq name label.name) (map label_of_entry entries)
-lookup-some [] name = refl
-lookup-some (entry ∷ entries) name = grind (arith, lookup-some entries name)
+pub address-there : (name : List ℕ) (labels : List Label) (place : ℕ) (label : Label) → place ≡ position_or_len (is_named name) labels
+    → place < length labels → label ≡ get_or labels place label → Some label.address ≡ address_named labels name
+address-there name labels place label is inside read =
+    ap (option_map (λ found. found.address)) (sym (slice_get_read labels (length labels) place label refl inside read))
+    ∙ ap (λ p. option_map (λ found. found.address) (slice_get labels p)) is ∙ sym (address-at name labels)
+
+pub address-none : (name : List ℕ) (labels : List Label) (place : ℕ) → place ≡ position_or_len (is_named name) labels
+    → length labels ≤ place → None ≡ address_named labels name
+address-none name labels place is past =
+    ap (option_map (λ (found : Label). found.address)) (sym (slice_get_past labels place past))
+    ∙ ap (λ p. option_map (λ found. found.address) (slice_get labels p)) is ∙ sym (address-at name labels)
 
 pub none_since : {X : Type 0} (o : Option X) → is_some o ≡ false → o ≡ None
 none_since o e = grind arith
 
-pub copied-some : {X : Type 0} (o : Option (Bor X)) → is_some (option_copied o) ≡ is_some o
-copied-some o = grind arith
-
--- a name that is no label's goes last
-pub labels-insert : (index : Index) (name : Vec ℕ) (address : ℕ) → list_any (λ label. bytes_eq name.items label.name) (labels_in index) ≡ false
-    → map label_of_entry (insert_entry vec_eq index.entries name address) ≡ labels_in index ++ label_of_entry (name, address) ∷ []
-labels-insert index name address fresh =
-    let none = none_since (lookup (λ key. bytes_eq name.items key.items) index.entries) (lookup-some index.entries name.items ∙ fresh) in
-    ap (map label_of_entry) (insert_entry-new vec_eq index name address none) ∙ map-append label_of_entry index.entries ((name, address) ∷ [])
+-- keys are equal by their bytes
+abbrev pub vec_eq : Vec ℕ → Vec ℕ → Bool
+vec_eq x y = bytes_eq x.items y.items

@@ -2,6 +2,8 @@ pub mod Common
 pub mod ClosingLemmas
 pub mod ShapeLemmas
 pub mod IndexLemmas
+pub mod ChainLemmas
+pub mod TableLemmas
 pub mod LayingLemmas
 pub mod NextWord
 pub mod CallerLemmas

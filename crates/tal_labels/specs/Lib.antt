@@ -4,6 +4,9 @@ pub mod Shapes
 pub mod Placing
 pub mod Answers
 pub mod Index
+pub mod Chains
+pub mod Hashes
+pub mod NameTables
 pub mod Adding
 pub mod Scopes
 pub mod Placers

@@ -5,28 +5,28 @@ ghost use Rattle.std.specs.List.{list_any};
 ghost use Rattle.std.specs.Str.{bytes_eq};
 ghost use Rattle.tal_words.specs.Labels.{address_named};
 
-use indexmap::IndexMap;
+use crate::name_table::NameTable;
 use std::alloc::{AllocError, Global};
 use std::marker::Model;
 use tal_words::{Label, Name};
 
-/// Labels in order of definition, with an index of their full names.
+/// Labels in order of definition, with a table of their full names.
 #[derive(Drop)]
 pub struct LabelIndex {
     labels: Vec<Label>,
-    addresses: IndexMap<Vec<u8>, u16>,
+    names: NameTable,
 }
 
 impl Model for LabelIndex {
     ghost use Rattle.std.specs.Prelude.{◌≡◌, List};
     ghost use Rattle.tal_words.specs.declared.name.Label.{Label as LabelValue};
-    ghost use Rattle.tal_labels.specs.Index.{labels_in};
+    ghost use Rattle.tal_labels.specs.Index.{names_of};
 
     ghost Value = { List LabelValue };
 
     ghost view = { λ index. index.labels.items };
 
-    ghost invariant = { λ index. labels_in index.addresses ≡ index.labels.items };
+    ghost invariant = { λ index. index.names ≡ names_of index.labels.items };
 }
 
 impl LabelIndex {
@@ -36,7 +36,7 @@ impl LabelIndex {
     {
         LabelIndex {
             labels: Vec::new(alloc),
-            addresses: IndexMap::new(alloc),
+            names: NameTable::new(alloc),
         }
     }
 
@@ -44,7 +44,7 @@ impl LabelIndex {
     pub fn has(&self, name: &[u8]) -> bool
         ensures { result ≡ list_any (λ label. bytes_eq name.now label.name) self.now }
     {
-        self.addresses.get(name).is_some()
+        self.names.position(name) < self.labels.len()
     }
 
     /// Adds the label of a full name that no label has.
@@ -58,7 +58,7 @@ impl LabelIndex {
             name: Name::new(alloc, name.as_slice())?,
             address,
         };
-        self.addresses.insert(name, address)?;
+        self.names.add(alloc, name.as_slice())?;
         self.labels.push_reserved(label);
         Ok(())
     }
@@ -67,7 +67,11 @@ impl LabelIndex {
     pub fn address_of(&self, name: &[u8]) -> Option<u16>
         ensures { result ≡ address_named self.now name.now }
     {
-        self.addresses.get(name).copied()
+        let place = self.names.position(name);
+        if place < self.labels.len() {
+            return Some(self.labels[place].address);
+        }
+        None
     }
 
     /// The labels in order, without their index.

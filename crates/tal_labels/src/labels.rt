@@ -17,7 +17,7 @@ use tal_words::Form;
 pub const FIRST_SCOPE: &[u8] = b"RESET";
 
 /// The byte that parts a scope from the name in it.
-const SLASH: u8 = b'/';
+pub(crate) const SLASH: u8 = b'/';
 
 /// The name up to the first `/`.
 pub fn scope_of(name: &[u8]) -> &[u8]

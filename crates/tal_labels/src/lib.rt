@@ -1,9 +1,13 @@
 //! Where the words of a Uxntal source lie, and its labels.
 #![tactic(auto)]
 
+mod chains;
 mod closing;
+mod keeping;
+mod kept;
 mod label_index;
 mod labels;
+mod name_table;
 mod placed;
 mod placer;
 mod placing;
