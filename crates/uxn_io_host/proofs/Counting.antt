@@ -1,5 +1,5 @@
 -- What a call of a tree counts, by what the system counted.
-use Rattle.std.specs.Prelude.{◌≡◌, ℕ, ◌-◌, ◌^◌, ◌≤◌, min, List, true, false, Result, Ok, Err, is_err}
+use Rattle.std.specs.Prelude.{◌≡◌, ℕ, ◌-◌, ◌^◌, ◌≤◌, List, true, false, Result, Ok, Err, is_err}
 use Rattle.std.proofs.Common.{arith}
 use Rattle.uxn_io_traits.specs.Faults.{Counted, one_more}
 use Rattle.uxn_io_traits.specs.Ended.{TreeEnded, TreeLooked}

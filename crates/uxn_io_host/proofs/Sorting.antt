@@ -1,5 +1,5 @@
 -- A sort of entries by the bytes of their names.
-use Rattle.std.specs.Prelude.{◌≡◌, ℕ, Bool, List}
+use Rattle.std.specs.Prelude.{◌≡◌, Bool, List}
 use Rattle.std.proofs.Common.{ap}
 use denote.Ref.{Bor}
 use denote.Param.Members.{Mut}

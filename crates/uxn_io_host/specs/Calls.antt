@@ -1,5 +1,5 @@
 -- What calls of the system count, and what they answer (profile).
-use Rattle.std.specs.Prelude.{◌≡◌, ℕ, Bool, true, Result, Ok, Err, is_err}
+use Rattle.std.specs.Prelude.{◌≡◌, ℕ, true, Result, Ok, Err, is_err}
 use Rattle.uxn_io_traits.specs.Faults.{one_more}
 use Rattle.uxn_io_traits.specs.declared.trees.NamesStop.{NamesStop}
 use Rattle.uxn_io_traits.specs.declared.trees.NamesStop.TheVariants.{Failed, NoMemory}

@@ -1,5 +1,4 @@
 -- A stream as a sink (profile).
-use Rattle.std.specs.Prelude.{ℕ}
 use Rattle.uxn_io_traits.specs.State.{SinkState}
 use Rattle.uxn_io_traits.specs.Unknown.{unknown_sink}
 use Rattle.uxn_io_host.specs.declared.stream.Stream.{Stream}
