@@ -1,1 +1,4 @@
+mod Bytes
+mod Counting
 mod PathTexts
+mod Sorting

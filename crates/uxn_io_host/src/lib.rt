@@ -6,6 +6,7 @@ mod folder;
 mod listing;
 mod opened;
 mod stream;
+mod system;
 
 pub use folder::CurrentFolder;
 pub use stream::Stream;

@@ -17,16 +17,24 @@ pub enum WordsStop {
 }
 
 impl From<io::Error> for WordsStop {
+    ghost use Rattle.uxn_program.specs.Words.{IsStopFor};
+
+    ghost from_gives = { IsStopFor };
+
     fn from(error: io::Error) -> WordsStop {
-        if error.kind() == ErrorKind::OutOfMemory {
-            WordsStop::NoMemory
-        } else {
-            WordsStop::NotText
+        match error.kind() {
+            ErrorKind::OutOfMemory => WordsStop::NoMemory,
+            _ => WordsStop::NotText,
         }
     }
 }
 
 impl<T: Drop> From<AllocFailed<T>> for WordsStop {
+    ghost use Rattle.std.specs.Prelude.{◌≡◌};
+    ghost use Rattle.uxn_program.specs.declared.words.WordsStop.TheVariants as stops;
+
+    ghost from_gives = { λ _ stop. stop ≡ stops.NoMemory };
+
     fn from(_: AllocFailed<T>) -> WordsStop {
         WordsStop::NoMemory
     }

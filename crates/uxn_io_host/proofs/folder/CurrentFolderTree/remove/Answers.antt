@@ -1,0 +1,5 @@
+use Rattle.uxn_io_host.proofs.Counting.{call_ended}
+use Rattle.uxn_io_host.proofs.folder.CurrentFolderTree.remove.Goals as goal
+
+pub returns-clause-ended : goal.returns-clause-ended
+returns-clause-ended g c = call_ended _ c.take_away.result _ _ _ _ c.take_away.ensures.counted
