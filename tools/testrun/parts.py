@@ -36,6 +36,7 @@ PARTS = (
     Part("pages", (".ci/pages",), is_wide=True, is_in_memory=True),
     Part("cases-aarch64", ("tools/cases-aarch64",), is_wide=True, is_in_memory=True),
     Part("cases-wasm", ("tools/cases-wasm",), is_wide=True, is_in_memory=True),
+    Part("faults", ("cases/faults",)),
     Part("extras", ("extras/tests/run",)),
     Part("tools", ("tools/tests/run",)),
     Part("memory", ("bench/memory",), is_in_memory=True),
