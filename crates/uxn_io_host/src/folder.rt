@@ -17,7 +17,6 @@ use super::opened::{CHUNK, OpenedFile, Way};
 use super::system::{ProcessFiles, System};
 use std::alloc::Global;
 use std::io::{self, ErrorKind, Read, Seek, Write};
-use std::os::fd::IntoRawFd;
 use std::rt::Files;
 use uxn_io_traits::{Entry, Failed, Kind, NamesStop, Path, RefusedFiles, Tree};
 
@@ -45,10 +44,7 @@ impl<'a, R: Files> CurrentFolder<'a, R> {
     }
 }
 
-impl<R: Files> CurrentFolder<'_, R>
-where
-    R::File: IntoRawFd,
-{
+impl<R: Files> CurrentFolder<'_, R> {
     /// Closes the file that is open, if one is. The system may tell only now that it could not keep what
     /// was written, and then this is a fault. So it is called at the end, too.
     pub fn close(&mut self) -> Result<(), Failed>
@@ -212,10 +208,7 @@ fn copy_prefix(bytes: &[u8], into: &mut [u8]) -> usize
     taken
 }
 
-impl<R: Files + AllocGlobal + Clone + Drop> CurrentFolder<'_, R>
-where
-    R::File: IntoRawFd,
-{
+impl<R: Files + AllocGlobal + Clone + Drop> CurrentFolder<'_, R> {
     /// The entries of a folder, in byte order of their names.
     fn listed(&mut self, alloc: Global, folder: &Path) -> Result<Vec<Entry>, NamesStop>
         ensures entries { IfOk result (λ entries. All IsEntry entries.items) }
@@ -230,10 +223,7 @@ where
     }
 }
 
-impl<R: Files + AllocGlobal + Clone + Drop> Tree for CurrentFolder<'_, R>
-where
-    R::File: IntoRawFd,
-{
+impl<R: Files + AllocGlobal + Clone + Drop> Tree for CurrentFolder<'_, R> {
     ghost use Rattle.uxn_io_host.specs.Folders.{folder_state};
 
     ghost state = { folder_state };

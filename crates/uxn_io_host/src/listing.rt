@@ -10,7 +10,6 @@ use super::system::{ProcessFiles, System, text};
 use std::alloc::{AllocError, Global};
 use std::fs::{self, DirEntry};
 use std::io::{self, ErrorKind};
-use std::os::fd::IntoRawFd;
 use std::rt::Files;
 use uxn_io_traits::{Entry, Failed, Kind, NamesStop, Path};
 
@@ -54,8 +53,6 @@ fn entry<R: Files>(
     folder: &Path,
     place: &str,
 ) -> Result<Option<Entry>, NamesStop>
-where
-    R::File: IntoRawFd,
     ensures entry { IfOk result (λ entry. IfSome entry IsEntry) }
     ensures counted { files.new.faults ≡ faults_listed result files.old.faults }
 {
@@ -78,8 +75,6 @@ fn entry_found<R: Files + Drop>(
     folder: &Path,
     found: io::Result<DirEntry<R>>,
 ) -> Result<Option<Entry>, NamesStop>
-where
-    R::File: IntoRawFd,
     ensures entry { IfOk result (λ entry. IfSome entry IsEntry) }
     ensures counted { files.new.faults ≡ faults_listed result files.old.faults }
 {
@@ -93,8 +88,6 @@ pub(crate) fn list<R: Files + AllocGlobal + Clone + Drop>(
     alloc: Global,
     folder: &Path,
 ) -> Result<Vec<Entry>, NamesStop>
-where
-    R::File: IntoRawFd,
     ensures entries { IfOk result (λ entries. All IsEntry entries.items) }
     ensures order { IfOk result (λ entries. IsSortedBy is_before entries.items) }
     ensures counted { files.new.faults ≡ faults_listed result files.old.faults }
@@ -110,8 +103,6 @@ fn fill<R: Files + AllocGlobal + Clone + Drop>(
     entries: &mut Vec<Entry>,
     folder: &Path,
 ) -> Result<(), NamesStop>
-where
-    R::File: IntoRawFd,
     requires { All IsEntry entries.old.items }
     ensures entries { All IsEntry entries.new.items }
     ensures order { OnOk result (IsSortedBy is_before entries.new.items) }

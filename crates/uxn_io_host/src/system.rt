@@ -10,7 +10,6 @@ ghost use Rattle.uxn_io_host.specs.Opened.{options_of};
 use super::opened::Way;
 use std::fs::{self, File, Metadata, OpenOptions};
 use std::io::{self, ErrorKind};
-use std::os::fd::IntoRawFd;
 use std::rt::Files;
 use std::str;
 use uxn_io_traits::{Failed, Kind, Path};
@@ -91,10 +90,7 @@ impl<'a, R: Files> ProcessFiles<'a, R> {
     }
 }
 
-impl<R: Files> System for ProcessFiles<'_, R>
-where
-    R::File: IntoRawFd,
-{
+impl<R: Files> System for ProcessFiles<'_, R> {
     type File = R::File;
 
     ghost use Rattle.std.specs.Prelude.{None};
@@ -119,19 +115,10 @@ where
         self.counted(options(way).open(self.rt, text(path)))
     }
 
+    /// What the system tells only as it closes a file is not to be had here.
     fn close(&mut self, file: R::File) -> Result<(), Failed> {
-        self.counted(closed(libc::close(file.into_raw_fd())))
-    }
-}
-
-/// What the system answered where a file was closed.
-fn closed(status: i32) -> io::Result<()>
-    ensures { IsOk result ↔ status ≡ pos 0 }
-{
-    if status == 0 {
+        drop(file);
         Ok(())
-    } else {
-        Err(io::Error::from(ErrorKind::Other))
     }
 }
 
