@@ -2,8 +2,9 @@
 use Rattle.std.specs.Prelude.{◌≡◌, ◌≢◌, ℕ, ◌+◌, ◌%◌, ◌==◌, Bool, true, false, if◌then◌else◌, List, [], Option, Some}
 use Rattle.std.specs.Prelude.{None, slice_index}
 use Rattle.uxn_memory.specs.Bytes.{memory_size, zeros, short_at, with_bytes}
-use Rattle.uxn_stacks.specs.Cells.{Cells, new_ring, byte_below, lowered}
+use Rattle.uxn_stacks.specs.Cells.{Cells, new_ring, pointed, byte_below, lowered}
 use Rattle.uxn_opcodes.specs.declared.Core.{Core}
+use Rattle.uxn_opcodes.specs.declared.Registers.{Registers}
 use Rattle.uxn_opcodes.specs.declared.operation.Width.TheVariants.{Short}
 use Rattle.uxn_opcodes.specs.declared.operation.Mode.{Mode}
 use Rattle.uxn_opcodes.specs.declared.operation.Op.{Op}
@@ -97,9 +98,16 @@ past_opcode core = record core { at = (core.at + 1) % 65536 }
 abbrev pub immediate_of : Core → ℕ
 immediate_of core = short_at 65536 core.memory core.at
 
--- the machine with another address
-abbrev pub moved : Core → ℕ → Core
-moved core at = record core { at = at }
+-- the registers of a machine, and the machine with other ones
+abbrev pub registers_of : Core → Registers
+registers_of core = record { at = core.at; working = core.working.pointer; returns = core.returns.pointer }
+
+abbrev pub with_registers : Core → Registers → Core
+with_registers core registers = record core {
+  at = registers.at;
+  working = pointed core.working registers.working;
+  returns = pointed core.returns registers.returns;
+}
 
 -- JMI: on from the address after the immediate by the immediate
 abbrev pub jumped : Core → Core

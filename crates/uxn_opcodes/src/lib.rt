@@ -1,8 +1,8 @@
 //! The instructions of the machine, over any ports.
 #![tactic(auto)]
 
-ghost use Rattle.std.specs.Prelude.{◌≡◌, ◌≢◌, ◌↔◌, ℕ, ◌+◌, ◌≤◌, ◌%◌, ◌*◌, ◌/◌, length, Result, IfOk, OnOk, IfErr};
-ghost use Rattle.uxn_memory.specs.Bytes.{largest_rom};
+ghost use Rattle.std.specs.Prelude.{◌≡◌, ◌≢◌, ◌↔◌, ℕ, ◌+◌, ◌≤◌, ◌%◌, ◌*◌, ◌/◌, length, slice_index, Result, IfOk, OnOk, IfErr};
+ghost use Rattle.uxn_memory.specs.Bytes.{largest_rom, short_at};
 ghost use Rattle.uxn_opcodes.specs.Words.{pushed};
 ghost use Rattle.uxn_opcodes.specs.Rule.{
   new_core,
@@ -17,7 +17,8 @@ ghost use Rattle.uxn_opcodes.specs.Rule.{
   jumped_if,
   called,
   literal,
-  moved,
+  registers_of,
+  with_registers,
 };
 ghost use Rattle.uxn_opcodes.specs.Table.{op_of, mode_of};
 ghost use Rattle.uxn_io_traits.specs.Faults.{Ledger};
@@ -27,7 +28,7 @@ ghost use Rattle.uxn_opcodes.specs.Instruction.{
   Written,
   WriteStops,
   writes_of,
-  port_answered,
+  port_answered as pushed_as,
   writes_in,
   FinishesAccess,
   Instruction,
@@ -56,6 +57,19 @@ pub struct Core {
     pub memory: Memory,
     /// The address of the next instruction.
     pub at: u16,
+}
+
+/// What a loop of instructions keeps in variables of its own: the address of the next instruction and the pointers of both
+/// stacks. A loop that keeps them so waits for no store of them.
+#[derive(Clone, Copy)]
+pub struct Registers {
+    /// The pointer of the working stack.
+    pub working: u8,
+    /// The address of the next instruction. It lies between the pointers: four bytes that are copied as one integer would be
+    /// kept so, and taken apart by shifts at each use.
+    pub at: u16,
+    /// The pointer of the return stack.
+    pub returns: u8,
 }
 
 /// Why a write to a port stopped.
@@ -127,12 +141,34 @@ impl Core {
             at: uxn_memory::START,
         })
     }
+
+    /// Its registers.
+    #[inline(always)]
+    pub fn registers(&self) -> Registers
+        ensures { result ≡ registers_of self.now }
+    {
+        Registers {
+            at: self.at,
+            working: self.working.pointer(),
+            returns: self.returns.pointer(),
+        }
+    }
+
+    /// Takes registers.
+    #[inline(always)]
+    pub fn set_registers(&mut self, registers: Registers)
+        ensures { self.new ≡ with_registers self.old registers }
+    {
+        self.at = registers.at;
+        self.working.set_pointer(registers.working);
+        self.returns.set_pointer(registers.returns);
+    }
 }
 
 /// The instruction byte at an address.
 #[inline(always)]
 fn opcode(core: &Core, at: u16) -> u8
-    ensures { result ≡ opcode_at (moved core.now at) }
+    ensures { result ≡ slice_index core.now.memory at }
 {
     core.memory.get(at)
 }
@@ -140,7 +176,7 @@ fn opcode(core: &Core, at: u16) -> u8
 /// JMI: goes on from the address after the immediate by the immediate.
 #[inline(always)]
 fn jump_on(core: &Core, at: &mut u16)
-    ensures { at.new ≡ (jumped (moved core.now at.old)).at }
+    ensures { at.new ≡ (at.old + 2 + short_at 65536 core.now.memory at.old) % 65536 }
 {
     let distance = core.memory.get2(*at);
     *at = at.wrapping_add(2).wrapping_add(distance);
@@ -148,54 +184,65 @@ fn jump_on(core: &Core, at: &mut u16)
 
 /// JCI: takes a byte of the working stack, and jumps where it is not 0.
 #[inline(always)]
-fn jump_on_if(core: &mut Core, at: &mut u16)
-    ensures { moved core.new at.new ≡ jumped_if (moved core.old at.old) }
+fn jump_on_if(core: &Core, registers: &mut Registers)
+    ensures { with_registers core.now registers.new ≡ jumped_if (with_registers core.now registers.old) }
 {
-    if core.working.take1() == 0 {
-        *at = at.wrapping_add(2);
+    let test = core.working.peek1_at(registers.working, 0);
+    registers.working = registers.working.wrapping_sub(1);
+    if test == 0 {
+        registers.at = registers.at.wrapping_add(2);
     } else {
-        jump_on(core, at);
+        jump_on(core, &mut registers.at);
     }
 }
 
 /// JSI: pushes the address after the immediate on the return stack, and jumps.
 #[inline(always)]
-fn call(core: &mut Core, at: &mut u16)
-    ensures { moved core.new at.new ≡ called (moved core.old at.old) }
+fn call(core: &mut Core, registers: &mut Registers)
+    ensures { with_registers core.new registers.new ≡ called (with_registers core.old registers.old) }
 {
     push(
         &mut core.returns,
+        &mut registers.returns,
         Width::Short,
-        u32::from(at.wrapping_add(2)),
+        u32::from(registers.at.wrapping_add(2)),
     );
-    jump_on(core, at);
+    jump_on(core, &mut registers.at);
 }
 
 /// LIT: pushes the word that follows, and goes on after it.
 #[inline(always)]
-fn push_literal(core: &mut Core, at: &mut u16, mode: Mode)
-    ensures { moved core.new at.new ≡ literal mode (moved core.old at.old) }
+fn push_literal(core: &mut Core, registers: &mut Registers, mode: Mode)
+    ensures { with_registers core.new registers.new ≡ literal mode (with_registers core.old registers.old) }
 {
-    let value = u32::from(load(&core.memory, mode.width, *at));
+    let value = u32::from(load(&core.memory, mode.width, registers.at));
+    push_as(core, registers, mode, value);
+    registers.at = registers.at.wrapping_add(u16::from(size(mode.width)));
+}
+
+/// Pushes a word on the stack of a mode.
+#[inline(always)]
+fn push_as(core: &mut Core, registers: &mut Registers, mode: Mode, value: u32)
+    ensures { with_registers core.new registers.new ≡ pushed_as mode (with_registers core.old registers.old) value }
+{
     if mode.returns {
-        push(&mut core.returns, mode.width, value);
+        push(&mut core.returns, &mut registers.returns, mode.width, value);
     } else {
-        push(&mut core.working, mode.width, value);
+        push(&mut core.working, &mut registers.working, mode.width, value);
     }
-    *at = at.wrapping_add(u16::from(size(mode.width)));
 }
 
 /// Runs an instruction whose low five bits are 0.
 #[inline(always)]
-fn run_immediate(core: &mut Core, at: &mut u16, code: u8)
-    ensures { moved core.new at.new ≡ immediate code (moved core.old at.old) }
+fn run_immediate(core: &mut Core, registers: &mut Registers, code: u8)
+    ensures { with_registers core.new registers.new ≡ immediate code (with_registers core.old registers.old) }
 {
     match code {
         0x00 => {}
-        0x20 => jump_on_if(core, at),
-        0x40 => jump_on(core, at),
-        0x60 => call(core, at),
-        _ => push_literal(core, at, Mode::of(code)),
+        0x20 => jump_on_if(core, registers),
+        0x40 => jump_on(core, &mut registers.at),
+        0x60 => call(core, registers),
+        _ => push_literal(core, registers, Mode::of(code)),
     }
 }
 
@@ -238,56 +285,46 @@ fn write_word<P: Ports>(
     }
 }
 
-/// Pushes the word that was read at a port.
-#[inline(always)]
-fn answer(core: &mut Core, mode: Mode, value: u16)
-    ensures { core.new ≡ port_answered mode core.old value }
-{
-    if mode.returns {
-        push(&mut core.returns, mode.width, u32::from(value));
-    } else {
-        push(&mut core.working, mode.width, u32::from(value));
-    }
-}
-
-/// Does the port access of an instruction. The ports see the next address in `core.at`, and a write may change it.
+/// Does the port access of an instruction. The ports see the registers in `core`, and a write may change them.
 #[inline(always)]
 #[tactic(auto, unfolding(crate::specs::Instruction::FinishesAccess))]
 fn finish<P: Ports>(
     core: &mut Core,
-    at: &mut u16,
+    registers: &mut Registers,
     ports: &mut P,
     access: Access,
 ) -> Result<(), Stop>
-    ensures ok { OnOk result (FinishesAccess P.rules access (moved core.old at.old) ports.old (moved core.new at.new) ports.new) }
+    ensures ok { OnOk result (FinishesAccess P.rules access (with_registers core.old registers.old) ports.old
+        (with_registers core.new registers.new) ports.new) }
     ensures err { IfErr result (λ stop. WriteStops P.rules (writes_in access)
-        ports.old (moved core.old at.old) stop ports.new (moved core.new at.new)) }
+        ports.old (with_registers core.old registers.old) stop ports.new (with_registers core.new registers.new)) }
     ensures ledger { Ledger (P.faults ports.old) (P.faults ports.new) (result_blame result) }
 {
     match access {
         Access::Nothing => Ok(()),
         Access::Read(port, mode) => {
-            core.at = *at;
+            core.set_registers(*registers);
             let value = read_word(core, ports, port, mode.width);
-            answer(core, mode, value);
+            push_as(core, registers, mode, u32::from(value));
             Ok(())
         }
         Access::Write(port, width, value) => {
-            core.at = *at;
+            core.set_registers(*registers);
             let done = write_word(core, ports, port, width, value);
-            *at = core.at;
+            *registers = core.registers();
             done
         }
     }
 }
 
 /// Runs the instruction of a code that is a constant, and so are its operation and its mode: all but its port access,
-/// which is told, and the next address.
-fn run<const CODE: u8>(core: &mut Core, at: u16) -> (Access, u16)
-    ensures { begun_as (moved core.new result.1) result.0 ≡ begun_with CODE (moved core.old at) }
+/// which is told, and the registers then.
+fn run<const CODE: u8>(core: &mut Core, registers: Registers) -> (Access, Registers)
+    ensures { begun_as (with_registers core.new result.1) result.0 ≡ begun_with CODE (with_registers core.old registers) }
 {
     let mode = Mode::of(CODE);
-    let mut next = at.wrapping_add(1);
+    let mut next = registers;
+    next.at = registers.at.wrapping_add(1);
     let access = match Op::of(CODE) {
         None => {
             run_immediate(core, &mut next, CODE);
@@ -296,10 +333,27 @@ fn run<const CODE: u8>(core: &mut Core, at: u16) -> (Access, u16)
         Some(op) => {
             let row = OpInMode { op, mode };
             let memory = &mut core.memory;
+            let at = &mut next.at;
             if mode.returns {
-                perform(row, memory, &mut next, &mut core.returns, &mut core.working)
+                perform(
+                    row,
+                    memory,
+                    at,
+                    &mut core.returns,
+                    &mut next.returns,
+                    &mut core.working,
+                    &mut next.working,
+                )
             } else {
-                perform(row, memory, &mut next, &mut core.working, &mut core.returns)
+                perform(
+                    row,
+                    memory,
+                    at,
+                    &mut core.working,
+                    &mut next.working,
+                    &mut core.returns,
+                    &mut next.returns,
+                )
             }
         }
     };
@@ -308,21 +362,21 @@ fn run<const CODE: u8>(core: &mut Core, at: u16) -> (Access, u16)
 
 /// Runs the instruction of a code: each byte has an arm of its own.
 macro_rules! run_code {
-    ($code:expr, $core:expr, $at:expr, $($byte:literal)*) => {
+    ($code:expr, $core:expr, $registers:expr, $($byte:literal)*) => {
         match $code {
-            $($byte => run::<$byte>($core, $at),)*
-            _ => run::<0xff>($core, $at),
+            $($byte => run::<$byte>($core, $registers),)*
+            _ => run::<0xff>($core, $registers),
         }
     };
 }
 
-/// Runs the instruction of a code, all but its port access, which is told, and the next address. No ports stand here, and
-/// `at` is no reference: the proof of so many arms is long, and the longer the more is borrowed in each.
+/// Runs the instruction of a code, all but its port access, which is told, and the registers then. No ports stand here, and
+/// the registers are no reference: the proof of so many arms is long, and the longer the more is borrowed in each.
 #[inline(always)]
-fn run_any(core: &mut Core, at: u16, code: u8) -> (Access, u16)
-    ensures { begun_as (moved core.new result.1) result.0 ≡ begun_with code (moved core.old at) }
+fn run_any(core: &mut Core, registers: Registers, code: u8) -> (Access, Registers)
+    ensures { begun_as (with_registers core.new result.1) result.0 ≡ begun_with code (with_registers core.old registers) }
 {
-    run_code!(code, core, at,
+    run_code!(code, core, registers,
         0x00 0x01 0x02 0x03 0x04 0x05 0x06 0x07 0x08 0x09 0x0a 0x0b 0x0c 0x0d 0x0e 0x0f
         0x10 0x11 0x12 0x13 0x14 0x15 0x16 0x17 0x18 0x19 0x1a 0x1b 0x1c 0x1d 0x1e 0x1f
         0x20 0x21 0x22 0x23 0x24 0x25 0x26 0x27 0x28 0x29 0x2a 0x2b 0x2c 0x2d 0x2e 0x2f
@@ -342,22 +396,27 @@ fn run_any(core: &mut Core, at: u16, code: u8) -> (Access, u16)
     )
 }
 
-/// Runs the instruction at `at`, and puts the next address there: what `step` does with `core.at`. A loop that keeps `at`
-/// in a variable of its own waits for no store of it. `core.at` is what it was or the address after a port access.
+/// Runs the instruction at `registers.at`: what `step` does with the registers that `core` keeps. A loop that keeps them in
+/// variables of its own waits for no store of them. Those in `core` are what they were, or what a port access left.
 #[inline(always)]
 #[tactic(auto, unfolding(crate::specs::Instruction::Instruction, crate::specs::Rule::begun, crate::specs::Table::op_of))]
-pub fn step_from<P: Ports>(core: &mut Core, at: &mut u16, ports: &mut P) -> Result<Turn, Stop>
-    ensures instruction { Instruction P.rules (moved core.old at.old) ports.old result (moved core.new at.new) ports.new }
-    ensures broke { (result ≡ Ok Turn.Broke) ↔ (opcode_at (moved core.old at.old) ≡ 0) }
+pub fn step_from<P: Ports>(
+    core: &mut Core,
+    registers: &mut Registers,
+    ports: &mut P,
+) -> Result<Turn, Stop>
+    ensures instruction { Instruction P.rules (with_registers core.old registers.old) ports.old result
+        (with_registers core.new registers.new) ports.new }
+    ensures broke { (result ≡ Ok Turn.Broke) ↔ (opcode_at (with_registers core.old registers.old) ≡ 0) }
     ensures ledger { Ledger (P.faults ports.old) (P.faults ports.new) (result_blame result) }
 {
-    let code = opcode(core, *at);
-    let (access, next) = run_any(core, *at, code);
-    *at = next;
+    let code = opcode(core, registers.at);
+    let (access, next) = run_any(core, *registers, code);
+    *registers = next;
     if code == 0 {
         return Ok(Turn::Broke);
     }
-    finish(core, at, ports, access)?;
+    finish(core, registers, ports, access)?;
     Ok(Turn::Ran)
 }
 
@@ -369,8 +428,8 @@ pub fn step<P: Ports>(core: &mut Core, ports: &mut P) -> Result<Turn, Stop>
     ensures broke { (result ≡ Ok Turn.Broke) ↔ (opcode_at core.old ≡ 0) }
     ensures ledger { Ledger (P.faults ports.old) (P.faults ports.new) (result_blame result) }
 {
-    let mut at = core.at;
-    let done = step_from(core, &mut at, ports);
-    core.at = at;
+    let mut registers = core.registers();
+    let done = step_from(core, &mut registers, ports);
+    core.set_registers(registers);
     done
 }

@@ -1,6 +1,7 @@
 //! The rows of the instruction table, a function for each kind of row.
 
 ghost use Rattle.std.specs.Prelude.{◌≡◌, ◌+◌, ◌-◌, ◌*◌, ◌/◌, ◌%◌, ◌^◌, ◌==◌, if◌then◌else◌};
+ghost use Rattle.uxn_stacks.specs.Cells.{pointed};
 ghost use Rattle.uxn_opcodes.specs.Words.{word_below, pushed_all, dropped};
 ghost use Rattle.uxn_opcodes.specs.Table.{
   taken,
@@ -71,10 +72,10 @@ fn quotient(a: u16, b: u16) -> u32
 
 /// The row of arithmetic on two words.
 #[inline(always)]
-fn calculate(op: ArithmeticOp, mode: Mode, this: &mut Ring)
-    ensures { this.new ≡ results mode (arithmetic_row op mode.width) this.old }
+fn calculate(op: ArithmeticOp, mode: Mode, this: &mut Ring, this_pointer: &mut u8)
+    ensures { pointed this.new this_pointer.new ≡ results mode (arithmetic_row op mode.width) (pointed this.old this_pointer.old) }
 {
-    let (a, b) = take_two(this, mode, mode.width, mode.width);
+    let (a, b) = take_two(this, this_pointer, mode, mode.width, mode.width);
     let value = match op {
         ArithmeticOp::Add => u32::from(a) + u32::from(b),
         ArithmeticOp::Sub => u32::from(a) + 65536 - u32::from(b),
@@ -84,77 +85,85 @@ fn calculate(op: ArithmeticOp, mode: Mode, this: &mut Ring)
         ArithmeticOp::Ora => u32::from(a | b),
         ArithmeticOp::Eor => u32::from(a ^ b),
     };
-    push(this, mode.width, value);
+    push(this, this_pointer, mode.width, value);
 }
 
 /// The row of comparisons, which push 1 or 0 as one byte.
 #[inline(always)]
-fn compare(op: CompareOp, mode: Mode, this: &mut Ring)
-    ensures { this.new ≡ results mode (compare_row op mode.width) this.old }
+fn compare(op: CompareOp, mode: Mode, this: &mut Ring, this_pointer: &mut u8)
+    ensures { pointed this.new this_pointer.new ≡ results mode (compare_row op mode.width) (pointed this.old this_pointer.old) }
 {
-    let (a, b) = take_two(this, mode, mode.width, mode.width);
+    let (a, b) = take_two(this, this_pointer, mode, mode.width, mode.width);
     match op {
-        CompareOp::Equ => push(this, Width::Byte, u32::from(a == b)),
-        CompareOp::Neq => push(this, Width::Byte, u32::from(a != b)),
-        CompareOp::Gth => push(this, Width::Byte, u32::from(a > b)),
-        CompareOp::Lth => push(this, Width::Byte, u32::from(a < b)),
+        CompareOp::Equ => push(this, this_pointer, Width::Byte, u32::from(a == b)),
+        CompareOp::Neq => push(this, this_pointer, Width::Byte, u32::from(a != b)),
+        CompareOp::Gth => push(this, this_pointer, Width::Byte, u32::from(a > b)),
+        CompareOp::Lth => push(this, this_pointer, Width::Byte, u32::from(a < b)),
     }
 }
 
 /// The row of the orders of words.
 #[inline(always)]
-fn arrange(op: StackOp, mode: Mode, this: &mut Ring)
-    ensures { this.new ≡ results mode (stack_row op mode.width) this.old }
+fn arrange(op: StackOp, mode: Mode, this: &mut Ring, this_pointer: &mut u8)
+    ensures { pointed this.new this_pointer.new ≡ results mode (stack_row op mode.width) (pointed this.old this_pointer.old) }
 {
     let width = mode.width;
     match op {
         StackOp::Pop => {
-            let _a = take_word(this, mode, width);
+            let _a = take_word(this, this_pointer, mode, width);
         }
         StackOp::Nip => {
-            let (_a, b) = take_two(this, mode, width, width);
-            push(this, width, u32::from(b));
+            let (_a, b) = take_two(this, this_pointer, mode, width, width);
+            push(this, this_pointer, width, u32::from(b));
         }
         StackOp::Swp => {
-            let (a, b) = take_two(this, mode, width, width);
-            push(this, width, u32::from(b));
-            push(this, width, u32::from(a));
+            let (a, b) = take_two(this, this_pointer, mode, width, width);
+            push(this, this_pointer, width, u32::from(b));
+            push(this, this_pointer, width, u32::from(a));
         }
         StackOp::Rot => {
-            let (a, b, c) = take_three(this, mode);
-            push(this, width, u32::from(b));
-            push(this, width, u32::from(c));
-            push(this, width, u32::from(a));
+            let (a, b, c) = take_three(this, this_pointer, mode);
+            push(this, this_pointer, width, u32::from(b));
+            push(this, this_pointer, width, u32::from(c));
+            push(this, this_pointer, width, u32::from(a));
         }
         StackOp::Dup => {
-            let a = take_word(this, mode, width);
-            push(this, width, u32::from(a));
-            push(this, width, u32::from(a));
+            let a = take_word(this, this_pointer, mode, width);
+            push(this, this_pointer, width, u32::from(a));
+            push(this, this_pointer, width, u32::from(a));
         }
         StackOp::Ovr => {
-            let (a, b) = take_two(this, mode, width, width);
-            push(this, width, u32::from(a));
-            push(this, width, u32::from(b));
-            push(this, width, u32::from(a));
+            let (a, b) = take_two(this, this_pointer, mode, width, width);
+            push(this, this_pointer, width, u32::from(a));
+            push(this, this_pointer, width, u32::from(b));
+            push(this, this_pointer, width, u32::from(a));
         }
     }
 }
 
 /// The row of jumps, which tells the next address.
 #[inline(always)]
-fn jump(op: JumpOp, mode: Mode, at: u16, this: &mut Ring, other: &mut Ring) -> u16
-    ensures next { result ≡ (results_of_row (jump_row op mode.width at) this.old).next }
-    ensures this { this.new ≡ dropped mode.keep this.old (taken (jump_row op mode.width at)) }
-    ensures other { other.new ≡ pushed_all other.old (results_of_row (jump_row op mode.width at) this.old).passes }
+fn jump(
+    op: JumpOp,
+    mode: Mode,
+    at: u16,
+    this: &mut Ring,
+    this_pointer: &mut u8,
+    other: &mut Ring,
+    other_pointer: &mut u8,
+) -> u16
+    ensures next { result ≡ (results_of_row (jump_row op mode.width at) (pointed this.old this_pointer.old)).next }
+    ensures this { pointed this.new this_pointer.new ≡ dropped mode.keep (pointed this.old this_pointer.old) (taken (jump_row op mode.width at)) }
+    ensures other { pointed other.new other_pointer.new ≡ pushed_all (pointed other.old other_pointer.old) (results_of_row (jump_row op mode.width at) (pointed this.old this_pointer.old)).passes }
 {
     let width = mode.width;
     match op {
         JumpOp::Jmp => {
-            let place = take_word(this, mode, width);
+            let place = take_word(this, this_pointer, mode, width);
             target(width, at, place)
         }
         JumpOp::Jcn => {
-            let (test, place) = take_two(this, mode, Width::Byte, width);
+            let (test, place) = take_two(this, this_pointer, mode, Width::Byte, width);
             if test == 0 {
                 at
             } else {
@@ -162,8 +171,8 @@ fn jump(op: JumpOp, mode: Mode, at: u16, this: &mut Ring, other: &mut Ring) -> u
             }
         }
         JumpOp::Jsr => {
-            let place = take_word(this, mode, width);
-            push(other, Width::Short, u32::from(at));
+            let place = take_word(this, this_pointer, mode, width);
+            push(other, other_pointer, Width::Short, u32::from(at));
             target(width, at, place)
         }
     }
@@ -171,45 +180,74 @@ fn jump(op: JumpOp, mode: Mode, at: u16, this: &mut Ring, other: &mut Ring) -> u
 
 /// The row of loads.
 #[inline(always)]
-fn load_word(op: LoadOp, mode: Mode, memory: &Memory, at: u16, this: &mut Ring)
-    ensures { this.new ≡ results mode (load_row op mode.width memory.now at) this.old }
+fn load_word(
+    op: LoadOp,
+    mode: Mode,
+    memory: &Memory,
+    at: u16,
+    this: &mut Ring,
+    this_pointer: &mut u8,
+)
+    ensures { pointed this.new this_pointer.new ≡ results mode (load_row op mode.width memory.now at) (pointed this.old this_pointer.old) }
 {
     let width = mode.width;
     match op {
         LoadOp::Ldz => {
-            let place = take_byte(this, mode);
-            push(this, width, u32::from(load_zero(memory, width, place)));
+            let place = take_byte(this, this_pointer, mode);
+            push(
+                this,
+                this_pointer,
+                width,
+                u32::from(load_zero(memory, width, place)),
+            );
         }
         LoadOp::Ldr => {
-            let offset = take_byte(this, mode);
+            let offset = take_byte(this, this_pointer, mode);
             let place = relative(at, u16::from(offset));
-            push(this, width, u32::from(load(memory, width, place)));
+            push(
+                this,
+                this_pointer,
+                width,
+                u32::from(load(memory, width, place)),
+            );
         }
         LoadOp::Lda => {
-            let place = take_word(this, mode, Width::Short);
-            push(this, width, u32::from(load(memory, width, place)));
+            let place = take_word(this, this_pointer, mode, Width::Short);
+            push(
+                this,
+                this_pointer,
+                width,
+                u32::from(load(memory, width, place)),
+            );
         }
     }
 }
 
 /// The row of stores.
 #[inline(always)]
-fn store_word(op: StoreOp, mode: Mode, memory: &mut Memory, at: u16, this: &mut Ring)
-    ensures memory { memory.new ≡ results_of_row (store_row op mode.width memory.old at) this.old }
-    ensures this { this.new ≡ dropped mode.keep this.old (taken (store_row op mode.width memory.old at)) }
+fn store_word(
+    op: StoreOp,
+    mode: Mode,
+    memory: &mut Memory,
+    at: u16,
+    this: &mut Ring,
+    this_pointer: &mut u8,
+)
+    ensures memory { memory.new ≡ results_of_row (store_row op mode.width memory.old at) (pointed this.old this_pointer.old) }
+    ensures this { pointed this.new this_pointer.new ≡ dropped mode.keep (pointed this.old this_pointer.old) (taken (store_row op mode.width memory.old at)) }
 {
     let width = mode.width;
     match op {
         StoreOp::Stz => {
-            let (value, place) = take_word_and_byte(this, mode);
+            let (value, place) = take_word_and_byte(this, this_pointer, mode);
             store_zero(memory, width, place, value);
         }
         StoreOp::Str => {
-            let (value, offset) = take_word_and_byte(this, mode);
+            let (value, offset) = take_word_and_byte(this, this_pointer, mode);
             store(memory, width, relative(at, u16::from(offset)), value);
         }
         StoreOp::Sta => {
-            let (value, place) = take_two(this, mode, width, Width::Short);
+            let (value, place) = take_two(this, this_pointer, mode, width, Width::Short);
             store(memory, width, place, value);
         }
     }
@@ -224,56 +262,58 @@ pub fn perform(
     memory: &mut Memory,
     at: &mut u16,
     this: &mut Ring,
+    this_pointer: &mut u8,
     other: &mut Ring,
+    other_pointer: &mut u8,
 ) -> Access
-    ensures sides { found memory.new at.new this.new other.new ≡ ruled row.mode (found memory.old at.old this.old other.old)
-        (op_effect_of row.op row.mode (found memory.old at.old this.old other.old)) }
-    ensures access { result ≡ (op_effect_of row.op row.mode (found memory.old at.old this.old other.old)).access }
+    ensures sides { found memory.new at.new (pointed this.new this_pointer.new) (pointed other.new other_pointer.new) ≡ ruled row.mode (found memory.old at.old (pointed this.old this_pointer.old) (pointed other.old other_pointer.old))
+        (op_effect_of row.op row.mode (found memory.old at.old (pointed this.old this_pointer.old) (pointed other.old other_pointer.old))) }
+    ensures access { result ≡ (op_effect_of row.op row.mode (found memory.old at.old (pointed this.old this_pointer.old) (pointed other.old other_pointer.old))).access }
 {
     let mode = row.mode;
     match row.op {
         Op::Inc => {
-            let a = take_word(this, mode, mode.width);
-            push(this, mode.width, u32::from(a) + 1);
+            let a = take_word(this, this_pointer, mode, mode.width);
+            push(this, this_pointer, mode.width, u32::from(a) + 1);
             Access::Nothing
         }
         Op::Sft => {
-            let (a, shift) = take_word_and_byte(this, mode);
-            push(this, mode.width, shifted(a, shift));
+            let (a, shift) = take_word_and_byte(this, this_pointer, mode);
+            push(this, this_pointer, mode.width, shifted(a, shift));
             Access::Nothing
         }
         Op::Arithmetic(op) => {
-            calculate(op, mode, this);
+            calculate(op, mode, this, this_pointer);
             Access::Nothing
         }
         Op::Compare(op) => {
-            compare(op, mode, this);
+            compare(op, mode, this, this_pointer);
             Access::Nothing
         }
         Op::Stack(op) => {
-            arrange(op, mode, this);
+            arrange(op, mode, this, this_pointer);
             Access::Nothing
         }
         Op::Sth => {
-            let a = take_word(this, mode, mode.width);
-            push(other, mode.width, u32::from(a));
+            let a = take_word(this, this_pointer, mode, mode.width);
+            push(other, other_pointer, mode.width, u32::from(a));
             Access::Nothing
         }
         Op::Jump(op) => {
-            *at = jump(op, mode, *at, this, other);
+            *at = jump(op, mode, *at, this, this_pointer, other, other_pointer);
             Access::Nothing
         }
         Op::Load(op) => {
-            load_word(op, mode, memory, *at, this);
+            load_word(op, mode, memory, *at, this, this_pointer);
             Access::Nothing
         }
         Op::Store(op) => {
-            store_word(op, mode, memory, *at, this);
+            store_word(op, mode, memory, *at, this, this_pointer);
             Access::Nothing
         }
-        Op::Dei => Access::Read(take_byte(this, mode), mode),
+        Op::Dei => Access::Read(take_byte(this, this_pointer, mode), mode),
         Op::Deo => {
-            let (value, port) = take_word_and_byte(this, mode);
+            let (value, port) = take_word_and_byte(this, this_pointer, mode);
             Access::Write(port, mode.width, value)
         }
     }

@@ -1,6 +1,7 @@
 //! Words of one or two bytes on a stack and in memory, and the taking of operands.
 
 ghost use Rattle.std.specs.Prelude.{◌≡◌, ◌+◌, ◌-◌, ◌*◌, ◌/◌, ◌%◌, ◌^◌};
+ghost use Rattle.uxn_stacks.specs.Cells.{Cells, pointed};
 ghost use Rattle.uxn_opcodes.specs.declared.operation.Width.TheVariants.{Byte, Short};
 ghost use Rattle.uxn_opcodes.specs.Words.{
   size_of,
@@ -31,109 +32,117 @@ pub fn size(width: Width) -> u8
 /// The word with `depth` bytes between it and the pointer.
 #[inline(always)]
 #[tactic(auto, unfolding(crate::specs::Words::word_below))]
-pub fn word(ring: &Ring, width: Width, depth: u8) -> u16
-    ensures { result ≡ word_below ring.now width depth }
+pub fn word(ring: &Ring, pointer: u8, width: Width, depth: u8) -> u16
+    ensures { result ≡ word_below (pointed ring.now pointer) width depth }
 {
     match width {
-        Width::Byte => u16::from(ring.peek1(depth)),
-        Width::Short => ring.peek2(depth),
+        Width::Byte => u16::from(ring.peek1_at(pointer, depth)),
+        Width::Short => ring.peek2_at(pointer, depth),
     }
 }
 
 /// The byte at the top.
 #[inline(always)]
 #[tactic(auto, unfolding(crate::specs::Words::word_below))]
-fn top_byte(ring: &Ring) -> u8
-    ensures { result ≡ word_below ring.now Byte 0 }
+fn top_byte(ring: &Ring, pointer: u8) -> u8
+    ensures { result ≡ word_below (pointed ring.now pointer) Byte 0 }
 {
-    ring.peek1(0)
+    ring.peek1_at(pointer, 0)
 }
 
-/// Lowers the pointer past operands, unless keep mode is set.
+/// The pointer lowered past operands, unless keep mode is set.
 #[inline(always)]
 #[tactic(auto, unfolding(crate::specs::Words::dropped))]
-fn drop_operands(ring: &mut Ring, mode: Mode, count: u8)
-    ensures { ring.new ≡ dropped mode.keep ring.old count }
+fn past_operands(pointer: u8, mode: Mode, count: u8) -> u8
+    ensures { (ring : Cells) → pointed ring result ≡ dropped mode.keep (pointed ring pointer) count }
 {
     if !mode.keep {
-        ring.lower(count);
+        pointer.wrapping_sub(count)
+    } else {
+        pointer
     }
 }
 
 /// Takes a byte.
 #[inline(always)]
-pub fn take_byte(ring: &mut Ring, mode: Mode) -> u8
-    ensures value { result ≡ word_below ring.old Byte 0 }
-    ensures ring { ring.new ≡ dropped mode.keep ring.old 1 }
+pub fn take_byte(ring: &Ring, pointer: &mut u8, mode: Mode) -> u8
+    ensures value { result ≡ word_below (pointed ring.now pointer.old) Byte 0 }
+    ensures pointer { pointed ring.now pointer.new ≡ dropped mode.keep (pointed ring.now pointer.old) 1 }
 {
-    let value = top_byte(ring);
-    drop_operands(ring, mode, 1);
+    let value = top_byte(ring, *pointer);
+    *pointer = past_operands(*pointer, mode, 1);
     value
 }
 
 /// Takes a word of a width.
 #[inline(always)]
-pub fn take_word(ring: &mut Ring, mode: Mode, width: Width) -> u16
-    ensures value { result ≡ word_below ring.old width 0 }
-    ensures ring { ring.new ≡ dropped mode.keep ring.old (size_of width) }
+pub fn take_word(ring: &Ring, pointer: &mut u8, mode: Mode, width: Width) -> u16
+    ensures value { result ≡ word_below (pointed ring.now pointer.old) width 0 }
+    ensures pointer { pointed ring.now pointer.new ≡ dropped mode.keep (pointed ring.now pointer.old) (size_of width) }
 {
-    let value = word(ring, width, 0);
-    drop_operands(ring, mode, size(width));
+    let value = word(ring, *pointer, width, 0);
+    *pointer = past_operands(*pointer, mode, size(width));
     value
 }
 
 /// Takes two words of these widths, the deeper one first.
 #[inline(always)]
-pub fn take_two(ring: &mut Ring, mode: Mode, first: Width, second: Width) -> (u16, u16)
-    ensures deep { result.0 ≡ word_below ring.old first (size_of second) }
-    ensures top { result.1 ≡ word_below ring.old second 0 }
-    ensures ring { ring.new ≡ dropped mode.keep ring.old (size_of first + size_of second) }
+pub fn take_two(
+    ring: &Ring,
+    pointer: &mut u8,
+    mode: Mode,
+    first: Width,
+    second: Width,
+) -> (u16, u16)
+    ensures deep { result.0 ≡ word_below (pointed ring.now pointer.old) first (size_of second) }
+    ensures top { result.1 ≡ word_below (pointed ring.now pointer.old) second 0 }
+    ensures pointer { pointed ring.now pointer.new ≡ dropped mode.keep (pointed ring.now pointer.old) (size_of first + size_of second) }
 {
-    let deep = word(ring, first, size(second));
-    let top = word(ring, second, 0);
-    drop_operands(ring, mode, size(first) + size(second));
+    let deep = word(ring, *pointer, first, size(second));
+    let top = word(ring, *pointer, second, 0);
+    *pointer = past_operands(*pointer, mode, size(first) + size(second));
     (deep, top)
 }
 
 /// Takes three words, the deepest one first.
 #[inline(always)]
-pub fn take_three(ring: &mut Ring, mode: Mode) -> (u16, u16, u16)
-    ensures deep { result.0 ≡ word_below ring.old mode.width (size_of mode.width + size_of mode.width) }
-    ensures middle { result.1 ≡ word_below ring.old mode.width (size_of mode.width) }
-    ensures top { result.2 ≡ word_below ring.old mode.width 0 }
-    ensures ring { ring.new ≡ dropped mode.keep ring.old
+pub fn take_three(ring: &Ring, pointer: &mut u8, mode: Mode) -> (u16, u16, u16)
+    ensures deep { result.0 ≡ word_below (pointed ring.now pointer.old) mode.width (size_of mode.width + size_of mode.width) }
+    ensures middle { result.1 ≡ word_below (pointed ring.now pointer.old) mode.width (size_of mode.width) }
+    ensures top { result.2 ≡ word_below (pointed ring.now pointer.old) mode.width 0 }
+    ensures pointer { pointed ring.now pointer.new ≡ dropped mode.keep (pointed ring.now pointer.old)
         (size_of mode.width + size_of mode.width + size_of mode.width) }
 {
     let size = size(mode.width);
-    let deep = word(ring, mode.width, size + size);
-    let middle = word(ring, mode.width, size);
-    let top = word(ring, mode.width, 0);
-    drop_operands(ring, mode, size + size + size);
+    let deep = word(ring, *pointer, mode.width, size + size);
+    let middle = word(ring, *pointer, mode.width, size);
+    let top = word(ring, *pointer, mode.width, 0);
+    *pointer = past_operands(*pointer, mode, size + size + size);
     (deep, middle, top)
 }
 
 /// Takes a word with a byte above it.
 #[inline(always)]
-pub fn take_word_and_byte(ring: &mut Ring, mode: Mode) -> (u16, u8)
-    ensures deep { result.0 ≡ word_below ring.old mode.width 1 }
-    ensures top { result.1 ≡ word_below ring.old Byte 0 }
-    ensures ring { ring.new ≡ dropped mode.keep ring.old (size_of mode.width + 1) }
+pub fn take_word_and_byte(ring: &Ring, pointer: &mut u8, mode: Mode) -> (u16, u8)
+    ensures deep { result.0 ≡ word_below (pointed ring.now pointer.old) mode.width 1 }
+    ensures top { result.1 ≡ word_below (pointed ring.now pointer.old) Byte 0 }
+    ensures pointer { pointed ring.now pointer.new ≡ dropped mode.keep (pointed ring.now pointer.old) (size_of mode.width + 1) }
 {
-    let deep = word(ring, mode.width, 1);
-    let top = top_byte(ring);
-    drop_operands(ring, mode, size(mode.width) + 1);
+    let deep = word(ring, *pointer, mode.width, 1);
+    let top = top_byte(ring, *pointer);
+    *pointer = past_operands(*pointer, mode, size(mode.width) + 1);
     (deep, top)
 }
 
 /// Pushes a word, cut to its width.
 #[inline(always)]
 #[tactic(auto, unfolding(crate::specs::Words::pushed))]
-pub fn push(ring: &mut Ring, width: Width, value: u32)
-    ensures { ring.new ≡ pushed ring.old width value }
+pub fn push(ring: &mut Ring, pointer: &mut u8, width: Width, value: u32)
+    ensures { pointed ring.new pointer.new ≡ pushed (pointed ring.old pointer.old) width value }
 {
     match width {
-        Width::Byte => ring.push1((value % 256) as u8),
-        Width::Short => ring.push2((value % 65536) as u16),
+        Width::Byte => *pointer = ring.push1_at(*pointer, (value % 256) as u8),
+        Width::Short => *pointer = ring.push2_at(*pointer, (value % 65536) as u16),
     }
 }
 

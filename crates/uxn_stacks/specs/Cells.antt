@@ -10,6 +10,10 @@ pub record Cells : Type 0 where
 unfoldable pub new_ring : Cells
 new_ring = record { bytes = replicate 256 0; pointer = 0 }
 
+-- the stack with its pointer at a place
+abbrev pub pointed : Cells → ℕ → Cells
+pointed ring pointer = record ring { pointer = pointer }
+
 -- the byte at a place
 abbrev pub cell : Cells → ℕ → ℕ
 cell ring place = slice_index ring.bytes (place % 256)

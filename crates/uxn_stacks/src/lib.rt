@@ -5,6 +5,7 @@ ghost use Rattle.std.specs.Prelude.{◌≡◌, ◌+◌, ◌-◌, ◌*◌, ◌/�
 ghost use Rattle.uxn_stacks.specs.Cells.{
   new_ring,
   cell,
+  pointed,
   byte_below,
   short_below,
   lowered,
@@ -81,12 +82,47 @@ impl Ring {
         self.bytes[usize::from(place)] = value;
     }
 
+    /// Pushes a byte where the pointer is at a place, and gives the pointer: what `push1` does with the pointer that is kept.
+    /// A loop that keeps the pointer in a variable of its own waits for no store of it.
+    #[inline(always)]
+    pub fn push1_at(&mut self, pointer: u8, value: u8) -> u8
+        ensures { pointed self.new result ≡ pushed_byte (pointed self.old pointer) value }
+    {
+        self.bytes[usize::from(pointer)] = value;
+        pointer.wrapping_add(1)
+    }
+
+    /// Pushes a short where the pointer is at a place, and gives the pointer.
+    #[inline(always)]
+    pub fn push2_at(&mut self, pointer: u8, value: u16) -> u8
+        ensures { pointed self.new result ≡ pushed_short (pointed self.old pointer) value }
+    {
+        let next = self.push1_at(pointer, (value / 256) as u8);
+        self.push1_at(next, (value % 256) as u8)
+    }
+
+    /// The byte with `depth` bytes between it and a pointer.
+    #[inline(always)]
+    pub fn peek1_at(&self, pointer: u8, depth: u8) -> u8
+        ensures { result ≡ byte_below (pointed self.now pointer) depth }
+    {
+        self.at(pointer.wrapping_sub(1).wrapping_sub(depth))
+    }
+
+    /// The short with `depth` bytes between it and a pointer.
+    #[inline(always)]
+    pub fn peek2_at(&self, pointer: u8, depth: u8) -> u16
+        ensures { result ≡ short_below (pointed self.now pointer) depth }
+    {
+        u16::from(self.peek1_at(pointer, depth.wrapping_add(1))) * 256
+            + u16::from(self.peek1_at(pointer, depth))
+    }
+
     /// Pushes a byte: sets it at the pointer, and raises the pointer by one.
     pub fn push1(&mut self, value: u8)
         ensures { self.new ≡ pushed_byte self.old value }
     {
-        self.bytes[usize::from(self.pointer)] = value;
-        self.pointer = self.pointer.wrapping_add(1);
+        self.pointer = self.push1_at(self.pointer, value);
     }
 
     /// Pushes a short: its high byte, then its low byte.

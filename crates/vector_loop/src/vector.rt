@@ -26,7 +26,7 @@ struct Ran {
 }
 
 /// Runs instructions from `core.at` on, up to and with the first BRK, or exactly `budget` of them. So much was counted before. The
-/// loop counts nothing else and keeps the address in a variable, since it is here that a run spends its time.
+/// loop counts nothing else and keeps the registers in variables, since it is here that a run spends its time.
 #[inline(never)]
 fn run_instructions<'a, T: Tree, O: Sink, E: Sink, W: Watcher>(
     core: &mut Core,
@@ -43,31 +43,31 @@ fn run_instructions<'a, T: Tree, O: Sink, E: Sink, W: Watcher>(
 {
     let start = tally.instructions;
     let mut left = budget;
-    let mut at = core.at;
+    let mut registers = core.registers();
     loop {
         let moment = Moment {
             instructions: start + (budget - left),
-            address: at,
+            address: registers.at,
         };
-        let Ok(()) = watcher.before_at(core, at, bus, moment) else {
-            core.at = at;
+        let Ok(()) = watcher.before_at(core, registers, bus, moment) else {
+            core.set_registers(registers);
             return Ran {
                 end: Err(Stop::NoMemory),
                 left,
             };
         };
         // Written out: `?` leaves one goal more for each clause, over what was converted, in the dearest proof of the crate.
-        match step_from(core, &mut at, bus) {
+        match step_from(core, &mut registers, bus) {
             Ok(Turn::Ran) => {}
             Ok(Turn::Broke) => {
-                core.at = at;
+                core.set_registers(registers);
                 return Ran {
                     end: Ok(VectorEnd::Broke),
                     left,
                 };
             }
             Err(stop) => {
-                core.at = at;
+                core.set_registers(registers);
                 return Ran {
                     end: Err(stop),
                     left,
@@ -76,7 +76,7 @@ fn run_instructions<'a, T: Tree, O: Sink, E: Sink, W: Watcher>(
         }
         left -= 1;
         if left == 0 {
-            core.at = at;
+            core.set_registers(registers);
             return Ran {
                 end: Ok(VectorEnd::Cut),
                 left: 0,

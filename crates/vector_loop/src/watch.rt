@@ -3,7 +3,7 @@ ghost use Rattle.std.specs.Prelude.{◌≡◌, OnOk, OnErr};
 ghost use Rattle.vector_loop.specs.Watch.{Page, IsPage};
 
 use std::alloc::AllocError;
-use uxn_opcodes::{Core, Ports};
+use uxn_opcodes::{Core, Ports, Registers};
 
 /// Where a run stands.
 #[derive(Clone, Copy)]
@@ -18,7 +18,7 @@ pub struct Moment {
 pub trait Watcher {
     ghost use Rattle.std.specs.Prelude.{◌≡◌, OnOk, OnErr};
     ghost use Rattle.uxn_opcodes.specs.declared.Core.{Core};
-    ghost use Rattle.uxn_opcodes.specs.Rule.{moved};
+    ghost use Rattle.uxn_opcodes.specs.Rule.{with_registers};
     ghost use Rattle.vector_loop.specs.declared.watch.Moment.{Moment};
     ghost use Rattle.vector_loop.specs.Watch.{Page, IsPage};
 
@@ -43,21 +43,21 @@ pub trait Watcher {
             → held self.new ≡ shown (held self.old) core.now page moment) }
         ensures err { OnErr result (may_refuse (held self.old) (held self.new)) };
 
-    /// The same of a machine that goes on at another address than it has stored: the machine is then shown with this one.
+    /// The same of a machine that goes on with other registers than it has stored: the machine is then shown with these.
     #[inline(always)]
     fn before_at<P: Ports>(
         &mut self,
         core: &mut Core,
-        at: u16,
+        registers: Registers,
         ports: &P,
         moment: Moment,
     ) -> Result<(), AllocError>
-        ensures ok { OnOk result ((page : Page) → IsPage (P.rules.reads ports.now (moved core.old at)) (P.stored ports.now) page
-            → held self.new ≡ shown (held self.old) (moved core.old at) page moment) }
+        ensures ok { OnOk result ((page : Page) → IsPage (P.rules.reads ports.now (with_registers core.old registers)) (P.stored ports.now) page
+            → held self.new ≡ shown (held self.old) (with_registers core.old registers) page moment) }
         ensures err { OnErr result (may_refuse (held self.old) (held self.new)) }
-        ensures core { moved core.new at ≡ moved core.old at }
+        ensures core { with_registers core.new registers ≡ with_registers core.old registers }
     {
-        core.at = at;
+        core.set_registers(registers);
         self.before(core, ports, moment)
     }
 
@@ -96,7 +96,7 @@ impl Watcher for NoWatch {
     fn before_at<P: Ports>(
         &mut self,
         _core: &mut Core,
-        _at: u16,
+        _registers: Registers,
         _ports: &P,
         _moment: Moment,
     ) -> Result<(), AllocError> {
