@@ -4,7 +4,7 @@ use Rattle.vector_loop.proofs.Vectors.{along-end, along-ran, along-start, ran-br
 use Rattle.vector_loop.proofs.vector.run_instructions.Goals as goal
 
 pub loop-core-init : goal.loop-core-init
-loop-core-init g c = record { within = omega arith; along = along-start _ _ c.args.budget _ (omega arith); some = c.requires.budget }
+loop-core-init g c = record { within = omega arith; along = rw c.registers-registers.ensures (along-start _ _ c.args.budget _ (omega arith)); some = c.requires.budget }
 
 pub loop-core-preserved : goal.loop-core-preserved
 loop-core-preserved g c =
@@ -19,27 +19,27 @@ loop-core-preserved g c =
 
 pub returns-in_default-clause-ran : goal.returns-in_default-clause-ran
 returns-in_default-clause-ran g c =
-    rw c.in_default.ensures.core (along-end _ _ _ _ _ c.args.budget _ c.loop-core.left c.loop-core.invariant.along _ _ _ _
+    rw (c.set_registers.ensures, c.in_default.ensures.core) (along-end _ _ _ _ _ c.args.budget _ c.loop-core.left c.loop-core.invariant.along _ _ _ _
     (ran-refused _ _ c.loop-core.left (c.loop-core.left - 1) (omega (arith, c.loop-core.invariant.some)) _ c.in_default.ensures.err))
 
 pub returns-in-Ok-Broke-clause-ran : goal.returns-in-Ok-Broke-clause-ran
 returns-in-Ok-Broke-clause-ran g c =
-    along-end _ _ _ _ _ c.args.budget _ c.loop-core.left c.loop-core.invariant.along _ _ _ _
+    rw c.set_registers-in-Ok-Broke.ensures (along-end _ _ _ _ _ c.args.budget _ c.loop-core.left c.loop-core.invariant.along _ _ _ _
     (ran-broke (models_of g.T.Tree g.O.Sink g.E.Sink g.W.Watcher) _ c.loop-core.left (c.loop-core.left - 1)
     (omega (arith, c.loop-core.invariant.some)) _ _ _ c.in-Ok.ensures.ok
-    (rw (c.in-Ok-Broke.field-0-is, c.in-Ok.ensures.core) at c.in-Ok-Broke.ensures.instruction) c.in-Ok-Broke.ensures.ledger)
+    (rw (c.in-Ok-Broke.field-0-is, c.in-Ok.ensures.core) at c.in-Ok-Broke.ensures.instruction) c.in-Ok-Broke.ensures.ledger))
 
 pub returns-in-Err-clause-ran : goal.returns-in-Err-clause-ran
 returns-in-Err-clause-ran g c =
-    along-end _ _ _ _ _ c.args.budget _ c.loop-core.left c.loop-core.invariant.along _ _ _ _
+    rw c.set_registers-in-Err.ensures (along-end _ _ _ _ _ c.args.budget _ c.loop-core.left c.loop-core.invariant.along _ _ _ _
     (ran-stopped (models_of g.T.Tree g.O.Sink g.E.Sink g.W.Watcher) _ c.loop-core.left (c.loop-core.left - 1)
     (omega (arith, c.loop-core.invariant.some)) _ _ _ Turn _ c.in-Ok.ensures.ok
-    (rw c.in-Ok.ensures.core at c.in-Err.ensures.instruction) c.in-Err.ensures.ledger)
+    (rw c.in-Ok.ensures.core at c.in-Err.ensures.instruction) c.in-Err.ensures.ledger))
 
 pub returns-then-left-eq0-clause-ran : goal.returns-then-left-eq0-clause-ran
 returns-then-left-eq0-clause-ran g c =
     let inv = c.loop-core.invariant in
-    along-end _ _ _ _ _ c.args.budget (c.args.budget - 0) 0 (along-ran _ _ _ _ _ c.args.budget _ c.loop-core.left inv.along _ _ _ _ 0
+    rw c.set_registers-then-left-eq0.ensures (along-end _ _ _ _ _ c.args.budget (c.args.budget - 0) 0 (along-ran _ _ _ _ _ c.args.budget _ c.loop-core.left inv.along _ _ _ _ 0
     (omega (arith, inv.within, inv.some, c.if-left-eq0.true)) (omega (arith, inv.some, c.if-left-eq0.true)) c.in-Ok.ensures.ok
     (rw (c.in-Ok-Ran.field-0-is, c.in-Ok.ensures.core) at c.in-Ok-Ran.ensures.instruction) c.in-Ok-Ran.ensures.ledger)
-    _ _ _ _ (ran-cut _ _)
+    _ _ _ _ (ran-cut _ _))
