@@ -128,6 +128,15 @@ def read_input(most: int = 64 * MEBIBYTE) -> bytes:
     return data
 
 
+def look_at_output(path: str) -> None:
+    """Refuses an output that a call of `uxn` would write to another place: a link on its way, or a second name."""
+    with suppress(FileNotFoundError, NotADirectoryError), _above(path, None) as (above, name):
+        found = os.stat(name, dir_fd=above, follow_symlinks=False)
+        if stat.S_ISLNK(found.st_mode) or stat.S_ISREG(found.st_mode) and found.st_nlink > 1:
+            what = "is a symbolic link" if stat.S_ISLNK(found.st_mode) else "has a second name"
+            raise Refused(path, f"it {what}, and is not written over")
+
+
 def open_streams() -> None:
     """Opens the standard streams that are closed: the input has nothing, an output takes nothing. So no file that is
     opened later gets the number of one of them."""

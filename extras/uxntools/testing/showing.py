@@ -246,4 +246,5 @@ def keep(test: Test, result: Result | None, shown: list[Shown], kind: str = "fai
 
 
 def forget(test: Test, kind: str = "failed") -> None:
-    files.remove_folder(folder_of(test, kind), test.folder)
+    if os.path.lexists(os.path.join(test.folder, folder_of(test, kind))):
+        files.remove_folder(folder_of(test, kind), test.folder)
