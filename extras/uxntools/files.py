@@ -23,8 +23,8 @@ from typing import IO, NamedTuple
 MEBIBYTE = 1 << 20
 MOST_INPUT = 4_194_304
 # How many files and folders a root has at most, how many bytes they have together, and how deep they lie.
-MOST_FILES = 65_536
-MOST_BYTES = 256 * MEBIBYTE
+MOST_FILES = 10_000
+MOST_BYTES = 64 * MEBIBYTE
 MOST_DEPTH = 64
 
 

@@ -25,6 +25,8 @@ class Picture:
 
     def scaled(self, scale: int) -> Picture:
         """The picture with each pixel as a square of so many by so many."""
+        if scale == 1:
+            return self
         wide = (b"".join(row[x:x + 3] * scale for x in range(0, len(row), 3)) for row in self.rows())
         return Picture(self.width * scale, self.height * scale, b"".join(row * scale for row in wide))
 
@@ -34,6 +36,8 @@ def whole_pictures(data: bytes) -> tuple[list[Picture], int]:
     found, at = [], 0
     while head := HEAD.match(data, at):
         width, height = int(head[1]), int(head[2])
+        if not width or not height:
+            break
         end = head.end() + 3 * width * height
         if end > len(data):
             break
@@ -66,9 +70,10 @@ def png(picture: Picture) -> bytes:
     return _head(picture.width, picture.height) + _chunk(b"IDAT", _packed(picture.rows())) + _chunk(b"IEND", b"")
 
 
-def _frames(films: list[Picture], width: int, height: int, rate: int) -> Iterator[bytes]:
+def _frames(films: list[Picture], width: int, height: int, rate: int, scale: int) -> Iterator[bytes]:
     number = 0
-    for film in films:
+    for one in films:
+        film = one.scaled(scale)
         rows = [row + bytes(3 * (width - film.width)) for row in film.rows()] + [bytes(3 * width)] * (height - film.height)
         yield _chunk(b"fcTL", struct.pack(">IIIIIHHBB", number, width, height, 0, 0, 1, rate, 0, 0))
         data = _packed(rows)
@@ -76,8 +81,8 @@ def _frames(films: list[Picture], width: int, height: int, rate: int) -> Iterato
         number += 2 if number else 1
 
 
-def animated_png(films: list[Picture], rate: int) -> bytes:
-    """All pictures as one PNG, `rate` a second; one that is smaller than the largest lies at its upper left, over black."""
-    width, height = max(film.width for film in films), max(film.height for film in films)
+def animated_png(films: list[Picture], rate: int, scale: int = 1) -> bytes:
+    """All pictures as one PNG, scaled, `rate` a second; one that is smaller than the largest lies at its upper left, over black."""
+    width, height = (scale * max(sizes) for sizes in zip(*((film.width, film.height) for film in films)))
     head = _head(width, height) + _chunk(b"acTL", struct.pack(">II", len(films), 0))
-    return head + b"".join(_frames(films, width, height, rate)) + _chunk(b"IEND", b"")
+    return head + b"".join(_frames(films, width, height, rate, scale)) + _chunk(b"IEND", b"")
