@@ -25,8 +25,6 @@ ELSEWHERE = {
     "zipfile": ["*"],
     "wave": ["open"],
 }
-# A WAV file is made in memory.
-ALLOWED = {("samples.py", "wave.open")}
 
 
 def opened_elsewhere(text: str) -> Iterator[str]:
@@ -58,8 +56,7 @@ class Sources(ToolTest):
         for path in paths:
             name = os.path.basename(path)
             if name != "files.py":
-                text = files.read(path).decode()
-                found += [f"{name}: {one}" for one in opened_elsewhere(text) if (name, one) not in ALLOWED]
+                found += [f"{name}: {one}" for one in opened_elsewhere(files.read(path).decode())]
         self.assertEqual(found, [])
 
     def test_the_check_finds_each_way(self) -> None:

@@ -9,6 +9,8 @@ import time
 
 import fuzzing
 from support import ToolTest
+from uxntools import lint
+from uxntools.analysis import Analysis
 
 # Writes `theirs` to the file rc of its root.
 WRITES = b"""|a0 @File &vector $2 &success $2 &stat $2 &delete $1 &append $1 &name $2 &length $2 &read $2 &write $2
@@ -298,6 +300,45 @@ class Inputs(Hostile):
             path = os.path.join(path, "d")
         os.makedirs(path)
         self.refused("over 64 folders deep", "uxn-test", status=2)
+
+
+class Long(Hostile):
+    """Words and lines that are as long as a source may be."""
+
+    def test_a_fault_in_a_long_word_has_its_place(self) -> None:
+        for size in (70_000, 4_000_000):
+            self.write("x.tal", b"|0100 BRK\n " + b"b" * size)
+            for words in (
+                ("uxn-check", "x.tal"),
+                ("uxn-listing", "x.tal"),
+                ("uxn-lint", "x.tal"),
+                ("uxn-fmt", "x.tal"),
+                ("uxn-explain", "uxn", "asm", "x.tal", "--out", "o"),
+                (os.path.join(fuzzing.EXTRAS, "dropins", "uxnasm"), "x.tal", "o"),
+            ):
+                got, said = self.attack(*words)
+                self.assertEqual(got, 131, said[:300])
+                self.assertRegex(said[:80], r"2:2: LongWord: bbb")
+                self.assertLess(len(said), 10_000)
+
+    def test_the_lint_takes_time_in_proportion(self) -> None:
+        """Sublabels in one line, one name in many scopes, and comments without words between them."""
+        for unit in ("&s%x ", "@x%x &main ;main POP2 ", "( lint-allow unused-label )\n"):
+            took = []
+            for count in (2_000, 16_000):
+                text = "|0100 @main " + "".join(unit % at if "%" in unit else unit for at in range(count)) + "BRK\n"
+                self.write("x.tal", text.encode())
+                begun = time.process_time()
+                lint.alarms(Analysis(self.path("x.tal"), expand=True))
+                took.append(time.process_time() - begun)
+            self.assertLess(took[1], 8 * 4 * took[0] + 0.5, unit)
+
+    def test_uxn_explain_says_who_writes_long_symbol_files(self) -> None:
+        fuzzing.sparse(self.path("y"), 17_000_000)
+        self.write("a.rom", b"\0")
+        got, said = self.attack("uxn-explain", "uxn", "dis", "a.rom", "--symbols", "y")
+        self.assertEqual(got, 134)
+        self.assertIn("`asm --symbols` writes longer ones", said)
 
 
 class Closed(Hostile):

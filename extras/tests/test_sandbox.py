@@ -9,11 +9,12 @@ import tempfile
 import threading
 import time
 import unittest
+import unittest.mock
 
 from support import EXAMPLES, EXTRAS, ToolTest, needs
 
 sys.path.insert(0, EXTRAS)
-from uxntools import sandbox
+from uxntools import files, sandbox
 from uxntools.cli import Failure
 
 # Reads the file that the argument names, and writes it to the console.
@@ -188,6 +189,67 @@ class WaysOut(SandboxTest):
         self.assertIn("IncludeDeep", self.refuse_in_sandbox(131, "play", "a.tal"))
         self.write("c.tal", "\n".join(f"~lib/{number}.tal" for number in range(200_000)))
         self.assertIn("IncludeMissing: ~lib/0.tal", self.refuse_in_sandbox(131, "play", "c.tal"))
+
+
+class Amounts(SandboxTest):
+    """What a run reads, prints and writes at most."""
+
+    def setUp(self) -> None:
+        super().setUp()
+        self.write("flood.tal", '|0100 @on LIT "x #18 DEO !on')
+        self.write("fill.tal", '|0100 ;name #a8 DEO2 #8000 #aa DEO2 #01 #a7 DEO @on ;name #ae DEO2 !on @name "big 00')
+        self.budget = ("--budget", "4000000000")
+
+    def sandboxed(self, status: int, *words: str) -> tuple[bytes, str]:
+        done = self.call("uxn-sandbox", "--isolation", "none", *words)
+        said = done.stderr.decode()
+        self.assertEqual(done.returncode, status, said)
+        return done.stdout, said
+
+    def test_a_flood_ends(self) -> None:
+        out, said = self.sandboxed(202, "--print", "1", "play", "flood.tal", *self.budget)
+        self.assertEqual(len(out), 1 << 20)
+        self.assertIn("it has printed more than 1048576 bytes", said)
+
+    def test_an_output_of_the_caller_has_no_limit_of_size(self) -> None:
+        self.succeed("sh", "-c", "uxn-sandbox --isolation none --size 1 play flood.tal --budget 4000000 >out")
+        self.assertEqual(len(self.read("out")), 1_000_000)
+
+    def test_files_are_too_much_together(self) -> None:
+        _, said = self.sandboxed(202, "--size", "9999", "--total", "4", "play", "fill.tal", *self.budget, "--root", "root")
+        self.assertIn("the root and the outputs have more than 4194304 bytes together", said)
+
+    def test_a_long_input_is_not_copied(self) -> None:
+        self.write("a.tal", "~long.tal")
+        with open(self.path("long.tal"), "wb") as file:
+            file.truncate(6 << 30)
+        before = time.monotonic()
+        _, said = self.sandboxed(201, "play", "a.tal")
+        self.assertLess(time.monotonic() - before, 30)
+        said = self.call("uxn-sandbox", "play", "a.tal").stderr.decode()
+        self.assertIn("input long.tal: it has more than 16,777,216 bytes\n", said)
+
+    def test_names_have_no_control_bytes(self) -> None:
+        os.symlink("/etc", self.path("root/\x1b[2J\n"))
+        said = self.call("uxn-sandbox", "play", "flood.tal", "--root", "root").stderr.decode()
+        self.assertEqual(said, "uxn-sandbox: root root/\\x1b[2J\\n: it is a symbolic link\n")
+
+    def test_a_mount_is_found_by_the_mount_table(self) -> None:
+        self.addCleanup(files._mount_points.cache_clear)
+        there = os.path.join(os.path.realpath(self.path("root")), "in ner")
+        with unittest.mock.patch.object(files, "_mount_points", lambda: frozenset({"/proc", there})):
+            with self.assertRaises(sandbox.Refused) as caught:
+                self.look_at_root()
+        self.assertIn("in ner: it is another file system", caught.exception.line)
+        self.assertIn("/proc", files._mount_points())
+
+    def look_at_root(self) -> None:
+        before = os.getcwd()
+        os.chdir(self.folder)
+        try:
+            sandbox.look_at_root("root")
+        finally:
+            os.chdir(before)
 
 
 @IN_BUBBLEWRAP

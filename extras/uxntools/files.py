@@ -23,8 +23,8 @@ from typing import IO, NamedTuple
 MEBIBYTE = 1 << 20
 MOST_INPUT = 4_194_304
 # How many files and folders a root has at most, how many bytes they have together, and how deep they lie.
-MOST_FILES = 65_536
-MOST_BYTES = 256 * MEBIBYTE
+MOST_FILES = 10_000
+MOST_BYTES = 64 * MEBIBYTE
 MOST_DEPTH = 64
 
 
@@ -126,6 +126,15 @@ def read_input(most: int = 64 * MEBIBYTE) -> bytes:
     if len(data) > most:
         raise Refused("the standard input", f"it has more than {most:,} bytes")
     return data
+
+
+def look_at_output(path: str) -> None:
+    """Refuses an output that a call of `uxn` would write to another place: a link on its way, or a second name."""
+    with suppress(FileNotFoundError, NotADirectoryError), _above(path, None) as (above, name):
+        found = os.stat(name, dir_fd=above, follow_symlinks=False)
+        if stat.S_ISLNK(found.st_mode) or stat.S_ISREG(found.st_mode) and found.st_nlink > 1:
+            what = "is a symbolic link" if stat.S_ISLNK(found.st_mode) else "has a second name"
+            raise Refused(path, f"it {what}, and is not written over")
 
 
 def open_streams() -> None:

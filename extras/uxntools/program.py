@@ -3,11 +3,13 @@ from __future__ import annotations
 
 import os
 import re
+import resource
 import shutil
+import signal
 import subprocess
 import threading
 from collections.abc import Iterator, Sequence
-from contextlib import contextmanager
+from contextlib import contextmanager, suppress
 from dataclasses import dataclass
 from typing import IO
 
@@ -22,6 +24,8 @@ FAULT = re.compile(
     r"source (?:(?P<path>.*) )?(?P<line>\d+):(?P<column>\d+): (?P<kind>[A-Za-z]+): (?P<word>.*)", re.DOTALL
 )
 
+# How many bytes a file has at most that a call writes, and an output that a tool reads.
+MOST_WRITTEN = files.OUTPUT.most
 # How much of an error output is kept where the output itself is not wanted. Of a refusal that is all: its line may
 # have a word as long as a source.
 LAST_OF_ERRORS, LAST_OF_REFUSAL = 70_000, 5_000_000
@@ -78,15 +82,33 @@ def path_of_uxn() -> str:
     return past_wrapper(os.path.abspath(found))
 
 
-def call(*words: str, folder: str | None = None, stdin: bytes = b"", seconds: float | None = None) -> Done:
+def limit_files(process: subprocess.Popen[bytes]) -> None:
+    """Limits the length of each file that a process writes: past it a signal ends the process."""
+    with suppress(OSError, ValueError):
+        resource.prlimit(process.pid, resource.RLIMIT_FSIZE, (MOST_WRITTEN, MOST_WRITTEN))
+
+
+def call(*words: str, folder: str | None = None, seconds: float | None = None) -> Done:
     """Runs `uxn` in a folder (the current one without it) until it ends."""
-    try:
-        done = subprocess.run(
-            [path_of_uxn(), *words], cwd=folder, input=stdin, capture_output=True, check=False, timeout=seconds
+    with files.scratch_file() as out, files.scratch_file() as err:
+        started = subprocess.Popen(
+            [path_of_uxn(), *words], cwd=folder, stdin=subprocess.DEVNULL, stdout=out, stderr=err
         )
-    except subprocess.TimeoutExpired:
-        raise Failure(f"uxn {' '.join(words)}: it did not end within {seconds} seconds") from None
-    return Done(done.returncode, done.stdout, done.stderr)
+        try:
+            limit_files(started)
+            status = started.wait(seconds)
+        except subprocess.TimeoutExpired:
+            raise Failure(f"uxn {' '.join(words)}: it did not end within {seconds} seconds") from None
+        finally:
+            if started.poll() is None:
+                started.kill()
+                started.wait()
+        return Done(status, *(_bytes_of(file) for file in (out, err)))
+
+
+def _bytes_of(file: IO[bytes]) -> bytes:
+    file.seek(0)
+    return file.read()
 
 
 class Calls:
@@ -110,6 +132,7 @@ class Calls:
                 stderr=errors,
             )
             self._running.add(started)
+        limit_files(started)
         try:
             return started.wait()
         except BaseException:
@@ -150,6 +173,8 @@ def accepted(done: Done) -> Done:
         raise Failure(f"the run ended early with {done.status} (docs/ended.md says why)", done.status)
     if done.status >= 128:
         raise Failure(done.line or f"uxn ended with {done.status}", done.status)
+    if done.status == -signal.SIGXFSZ:
+        raise Failure(f"uxn was ended: it has written a file of {MOST_WRITTEN:,} bytes")
     if done.status < 0:
         raise Failure(f"uxn was ended by signal {-done.status}")
     return done

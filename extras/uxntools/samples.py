@@ -3,9 +3,8 @@
 from __future__ import annotations
 
 import array
-import io
+import struct
 import sys
-import wave
 from dataclasses import dataclass
 
 from uxntools.pictures import Picture
@@ -36,13 +35,10 @@ class Moment:
 
 def wav(data: bytes) -> bytes:
     """The samples as a WAV file."""
-    out = io.BytesIO()
-    with wave.open(out, "wb") as sound:
-        sound.setnchannels(2)
-        sound.setsampwidth(2)
-        sound.setframerate(RATE)
-        sound.writeframes(data)
-    return out.getvalue()
+    size = len(data)
+    form = struct.pack("<HHIIHH", 1, 2, RATE, RATE * PAIR, PAIR, 16)
+    head = b"RIFF" + struct.pack("<I", 36 + size) + b"WAVEfmt " + struct.pack("<I", len(form)) + form
+    return b"".join((head, b"data", struct.pack("<I", size), data))
 
 
 def numbers(data: bytes) -> array.array[int]:

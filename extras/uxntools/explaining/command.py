@@ -19,7 +19,12 @@ line. A line alone is explained too: `uxn-explain 'source 1:1: BadName: @c1'`, o
 
 
 def explain_call(words: list[str]) -> int:
-    """Makes the call, and explains its refusal."""
+    """Makes the call, and explains its refusal. A call that would change a file by another name is not made."""
+    known = arguments.read(words)
+    for path in known.outputs().values():
+        files.look_at_output(path)
+    if os.path.isdir(known.options.get("root", "")):
+        files.look_at_folder(known.options["root"])
     done = subprocess.run([program.path_of_uxn(), *words], stderr=subprocess.PIPE, check=False)
     sys.stdout.flush()
     is_long = done.returncode >= 128 and len(done.stderr) > cli.MOST_SIGNS
@@ -31,7 +36,6 @@ def explain_call(words: list[str]) -> int:
     if 0 <= done.returncode < 128:
         return done.returncode
     line = done.stderr.decode(errors="surrogateescape").rstrip("\n")
-    known = arguments.read(words)
     found = call.explain_line(line, known) if line else None
     found = found or call.explain_status(done.returncode)
     say(found.text() if found else f"There is nothing to say of status {done.returncode}.\n")

@@ -101,7 +101,7 @@ def chosen_tests(given: argparse.Namespace) -> list[Test]:
 def warn(lines: Sequence[str]) -> None:
     """Says what a user should know beside the outcome."""
     for line in lines:
-        print(f"uxn-test: {line}", file=sys.stderr, flush=True)
+        print(cli.shown(f"uxn-test: {line}"), file=sys.stderr, flush=True)
 
 
 def run_all(tests: Sequence[Test], session: Session, reporter: Reporter) -> int:
@@ -129,7 +129,8 @@ def update(tests: Sequence[Test], session: Session, allowed: frozenset[str]) -> 
         head = "NOT RECORDED" if made.refused else "unchanged" if made.is_empty else "recorded"
         if made.has_pictures:
             made.lines.append(f"the pictures are in {showing.keep(test, None, made.shown, 'recorded')}")
-        print("\n    ".join([f"{head} {test.name}", *made.refused, *made.lines]), flush=True)
+        lines = map(cli.shown, [f"{head} {test.name}", *made.refused, *made.lines])
+        print("\n    ".join(lines), flush=True)
         if not made.refused:
             updating.write(test, made)
             warn(warning.empty_folders(test, made.after))
@@ -145,7 +146,7 @@ def watch(given: argparse.Namespace, session: Session) -> int:
     concerned: list[Test] = tests
     while True:
         state = Watch(tests, session)
-        run_all(concerned, session, Reporter(len(concerned), True))
+        run_all(concerned, session, Reporter(len(concerned), True, sys.stdout))
         changed = state.wait()
         try:
             session.look_anew()
@@ -164,7 +165,7 @@ def main() -> int:
     check(given, made)
     options = Options(given.jobs, given.fresh, given.seconds)
     if given.list:
-        print("".join(f"{test.name}\n" for test in chosen_tests(given)), end="")
+        print("".join(f"{cli.shown(test.name)}\n" for test in chosen_tests(given)), end="")
         return 0
     if given.watch:
         return watch(given, Session(options))
@@ -173,7 +174,7 @@ def main() -> int:
     warn(warning.unknown_files(tests) + ([] if given.update else warning.pictures(tests)))
     if given.update:
         return update(tests, session, given.allow)
-    reporter = TapReporter(len(tests)) if given.tap else Reporter(len(tests), given.verbose, sys.stdout)
+    reporter = TapReporter(len(tests), sys.stdout) if given.tap else Reporter(len(tests), given.verbose, sys.stdout)
     status = run_all(tests, session, reporter)
     if given.junit:
         write_junit(given.junit, reporter.outcomes, start)

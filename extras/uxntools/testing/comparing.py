@@ -2,6 +2,7 @@
 from __future__ import annotations
 
 import os
+import signal
 from dataclasses import dataclass
 
 from uxntools import files, program, report, script
@@ -83,6 +84,8 @@ def _ended(test: Test, result: Result) -> Fault | None:
         else "was none"
     )
     line = f"the call {how} with status {result.status}" + (f": {result.line}" if result.line else "")
+    if result.status == -signal.SIGXFSZ:
+        line = f"the call was ended: it has written a file of {program.MOST_WRITTEN:,} bytes"
     return Fault("status", line, kind=REFUSAL if is_refused else EARLY)
 
 

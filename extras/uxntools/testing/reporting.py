@@ -9,6 +9,7 @@ import time
 from collections.abc import Sequence
 from typing import TextIO
 
+from uxntools.cli import shown
 from uxntools.testing.session import Outcome
 
 
@@ -49,12 +50,12 @@ class Reporter:
 
     def _say(self, outcome: Outcome) -> None:
         if outcome.has_passed:
-            self._write(f"passed {outcome.test.name}{' (unchanged)' if outcome.is_old else ''}\n")
+            self._write(f"passed {shown(outcome.test.name)}{' (unchanged)' if outcome.is_old else ''}\n")
             return
         lines = [f"FAILED {outcome.test.name}", *("    " + line for line in outcome.lines)]
         if outcome.kept:
             lines.append(f"    what came is kept in {outcome.kept}")
-        self._write("".join(line + "\n" for line in lines))
+        self._write("".join(shown(line) + "\n" for line in lines))
 
     def end(self) -> int:
         """Says the summary, and answers the status."""
@@ -77,11 +78,11 @@ class TapReporter(Reporter):
 
     def add(self, outcome: Outcome) -> None:
         self.outcomes.append(outcome)
-        name = outcome.test.name.replace("#", "\\#")
+        name = shown(outcome.test.name).replace("#", "\\#")
         lines = [f"{'ok' if outcome.has_passed else 'not ok'} {len(self.outcomes)} - {name}"]
         if not outcome.has_passed:
-            lines += ["  ---", "  message: |", *("    " + line for line in outcome.lines)]
-            lines += [f"  kept: {outcome.kept}", "  ..."]
+            lines += ["  ---", "  message: |", *("    " + shown(line) for line in outcome.lines)]
+            lines += [f"  kept: {shown(outcome.kept)}", "  ..."]
         self._write("".join(line + "\n" for line in lines))
 
     def end(self) -> int:

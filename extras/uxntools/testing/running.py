@@ -196,6 +196,7 @@ def end_all() -> None:
 
 def _wait(process: subprocess.Popen[bytes], seconds: float | None, test: Test) -> int:
     RUNNING.add(process)
+    program.limit_files(process)
     if ENDING.is_set():
         process.kill()
     try:

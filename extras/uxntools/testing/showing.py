@@ -16,6 +16,8 @@ from uxntools.testing.running import KEPT, Result
 # How many lines, pictures and places are shown; all else is in the files that are kept.
 LINES = 40
 LONG_TEXT = 4000
+# How many bytes two texts have together at most that are compared line by line.
+MOST_TEXT = 4_000_000
 PICTURES = 4
 PLACES = 4
 LONG_LINE = 200
@@ -97,7 +99,9 @@ def binary_difference(wanted: bytes, got: bytes) -> list[str]:
 
 
 def bytes_difference(wanted: bytes, got: bytes) -> list[str]:
-    return text_difference(wanted, got) if is_text(wanted) and is_text(got) else binary_difference(wanted, got)
+    is_short = len(wanted) + len(got) <= MOST_TEXT
+    has_lines = is_short and is_text(wanted) and is_text(got)
+    return text_difference(wanted, got) if has_lines else binary_difference(wanted, got)
 
 
 def _differing_places(wanted: Picture, got: Picture) -> list[tuple[int, int]]:
@@ -246,4 +250,5 @@ def keep(test: Test, result: Result | None, shown: list[Shown], kind: str = "fai
 
 
 def forget(test: Test, kind: str = "failed") -> None:
-    files.remove_folder(folder_of(test, kind), test.folder)
+    if os.path.lexists(os.path.join(test.folder, folder_of(test, kind))):
+        files.remove_folder(folder_of(test, kind), test.folder)
