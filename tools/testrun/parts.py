@@ -6,7 +6,9 @@ import os
 from dataclasses import dataclass
 
 # The tests of the tools that take longest begin first.
-LONGEST = ("test_debug_watch", "test_test", "test_package", "test_install", "test_lsp", "test_debug", "test_explain", "test_watch", "test_manual")
+LONGEST = (
+    "test_debug_watch", "test_test", "test_package", "test_install", "test_lsp", "test_debug", "test_explain", "test_watch", "test_manual",
+)
 
 
 @dataclass(frozen=True)
