@@ -1,9 +1,13 @@
 """./install: what it puts beneath a prefix works from there, and --remove leaves what others have there."""
 from __future__ import annotations
 
+import atexit
+import functools
 import os
 import platform
 import shutil
+import subprocess
+import tempfile
 import unittest
 
 from support import EXAMPLES, TOP, ToolTest, needs
@@ -12,18 +16,36 @@ from test_package import make_dist
 INSTALL = os.path.join(TOP, "install")
 
 
+@functools.cache
+def installed() -> str:
+    """A prefix with an installation that tests copy or read, and beside it the dist/ that it is made of."""
+    folder = tempfile.mkdtemp(prefix="uxn-installed-")
+    atexit.register(shutil.rmtree, folder, ignore_errors=True)
+    dist = os.path.join(folder, "dist")
+    with open(os.environ["UXN"], "rb") as file:
+        make_dist(dist, file.read())
+    if platform.machine() == "aarch64":
+        shutil.copy(os.path.join(dist, "uxn-linux-x86_64"), os.path.join(dist, "uxn-linux-aarch64"))
+    prefix = os.path.join(folder, "prefix")
+    done = subprocess.run([INSTALL, "--dist", dist, "--prefix", prefix], capture_output=True, text=True, check=False)
+    if done.returncode:
+        raise AssertionError(done.stderr)
+    return prefix
+
+
 @unittest.skipUnless(platform.machine() in ("x86_64", "aarch64") and platform.system() == "Linux", "dist/ has no program for it")
 class Install(ToolTest):
     def setUp(self) -> None:
         super().setUp()
-        make_dist(self.path("dist"), self.read(".bin/uxn"))
-        if platform.machine() == "aarch64":
-            shutil.copy(self.path("dist/uxn-linux-x86_64"), self.path("dist/uxn-linux-aarch64"))
+        shutil.copytree(os.path.join(os.path.dirname(installed()), "dist"), self.path("dist"))
         with open(os.path.join(TOP, "VERSION"), encoding="ascii") as file:
             self.version = file.read().strip()
 
     def install(self, *words: str) -> str:
         return self.succeed(INSTALL, "--dist", "dist", "--prefix", "a prefix", *words)
+
+    def copy(self) -> None:
+        shutil.copytree(installed(), self.path("a prefix"), symlinks=True)
 
     def names(self) -> set[str]:
         """All files and folders beneath the prefix."""
@@ -49,7 +71,7 @@ class Install(ToolTest):
         self.assertEqual(self.names(), {"bin", "bin/other", "share", "share/uxn", "share/uxn/other"})
 
     def test_tools_call_past_the_wrapper(self) -> None:
-        self.install()
+        self.copy()
         path = os.pathsep.join([self.path("a prefix/bin"), "/usr/bin", "/bin"])
         self.write("a.tal", "|0100 BRK")
         self.write("a prefix/bin/uxn", f"#!/bin/sh\n: >'{self.path('ran')}'\n")
@@ -61,7 +83,7 @@ class Install(ToolTest):
         self.assertTrue(os.path.exists(self.path("ran")))
 
     def test_an_older_installation_goes(self) -> None:
-        self.install()
+        self.copy()
         before = self.names()
         self.write("a prefix/share/uxn/old/file", "")
         with open(self.path("a prefix/share/uxn/files"), "a", encoding="utf-8") as file:
@@ -71,11 +93,11 @@ class Install(ToolTest):
 
     @needs("man")
     def test_manual_pages_name_the_folder(self) -> None:
-        self.install()
-        done = self.call("man", "-P", "cat", "-M", "a prefix/share/man", "uxn", MANWIDTH="200", MANOPT="--nj")
+        words = ["man", "-P", "cat", "-M", os.path.join(installed(), "share/man"), "uxn"]
+        done = self.call(*words, MANWIDTH="200", MANOPT="--nj")
         if b"minimized" in done.stdout + done.stderr:
             self.skipTest("man shows no pages here")
-        self.assertIn(f"All pages are in {self.path('a prefix')}/share/doc/uxn/docs.", done.stdout.decode())
+        self.assertIn(f"All pages are in {installed()}/share/doc/uxn/docs.", done.stdout.decode())
 
     def test_wrong_calls(self) -> None:
         self.refuse(2, INSTALL, "x")

@@ -19,6 +19,7 @@ import unittest
 from support import EXAMPLES, EXTRAS, TOP, ToolTest, needs
 
 sys.path.append(os.path.join(EXTRAS, "packaging"))
+import archives  # noqa: E402
 import contents  # noqa: E402
 
 # What the package needs, and what a user has who reads manual pages and completes words.
@@ -172,6 +173,8 @@ class Files(PackageTest):
             self.assertIn(f"glibc {least} ", file.read())
         self.assertEqual(contents.least_libc(b"\0GLIBC_2.4\0GLIBC_2.17\0GLIBC_2.2.5\0"), "2.17")
         self.assertIsNone(contents.least_libc(b"\x7fELF GLIBC_2.4"))
+        control = archives.control({}, contents.MACHINES[1], "1.0", None)
+        self.assertRegex(control, rb"\nArchitecture: arm64\n(.*\n)*Depends: python3:any ")
 
     @needs("objdump")
     def test_the_c_library_as_objdump_finds_it(self) -> None:

@@ -26,6 +26,7 @@ class RunnerTest(ToolTest):
 
     def setUp(self) -> None:
         super().setUp()
+        self.environment.pop("UXN_JOBS", None)
         for name in COPIED:
             os.makedirs(os.path.dirname(self.path(name)), exist_ok=True)
             source = os.path.join(TOP, name)
@@ -95,6 +96,17 @@ class Parts(RunnerTest):
             lines = self.run_tests(1, "cases")
             self.assertIn(f"FAILED cases: {why}", lines)
             self.assertRegex(lines[-1], r"^\d passed, 1 failed$")
+
+    def test_a_part_that_prints_rows(self) -> None:
+        self.part("bench/memory", "echo '  2.0 MB of 3  asm'; echo '  4.0 MB of 5  play'")
+        self.assertEqual(self.run_tests(0, "memory")[-1], "2 passed, 0 failed")
+        self.part("bench/memory", "echo '  2.0 MB of 3  asm'; echo '  6.0 MB of 5  play  FAILED'; exit 1")
+        lines = self.run_tests(1, "memory", "play", "line")
+        self.assertIn("  6.0 MB of 5  play  FAILED", lines)
+        self.assertEqual(lines[-1], "1 passed, 1 failed")
+        self.part("bench/memory", "exit 2")
+        self.assertEqual(self.run_tests(1, "memory")[0], "FAILED memory: it ended with status 2")
+        self.assertIn("bench/memory uxn --only play line", " ".join(self.log()))
 
     def test_what_passes_is_not_shown(self) -> None:
         self.part("cases/run", "echo a line; echo 3 passed, 0 failed")

@@ -6,7 +6,9 @@ import os
 from dataclasses import dataclass
 
 # The tests of the tools that take longest begin first.
-LONGEST = ("test_debug_watch", "test_test", "test_package", "test_install", "test_lsp", "test_debug", "test_explain", "test_watch", "test_manual")
+LONGEST = (
+    "test_debug_watch", "test_test", "test_package", "test_install", "test_lsp", "test_debug", "test_explain", "test_watch", "test_manual",
+)
 
 
 @dataclass(frozen=True)
@@ -18,6 +20,10 @@ class Part:
     is_wide: bool = False
     # Its folders may be in memory: the others also show how a disk behaves, or need devices.
     is_in_memory: bool = False
+    # What each line of a result has, if the part prints no counts. A line that has FAILED too is a failure.
+    row: str = ""
+    # The option whose value is what is named of the part, if names are no words of their own.
+    option: str = ""
 
 
 @dataclass(frozen=True)
@@ -39,7 +45,7 @@ PARTS = (
     Part("faults", ("cases/faults",)),
     Part("extras", ("extras/tests/run",)),
     Part("tools", ("tools/tests/run",)),
-    Part("memory", ("bench/memory",), is_in_memory=True),
+    Part("memory", ("bench/memory",), is_in_memory=True, row=" MB of ", option="--only"),
     Part("conditions", (".ci/conditions",), is_in_memory=True),
     Part("lines", (".ci/lines",), is_in_memory=True),
 )
@@ -81,4 +87,5 @@ def jobs(top: str, part: Part, names: list[str]) -> list[Job]:
     """The jobs of a part, or of what is named of it."""
     if part.name == "extras":
         return jobs_of_extras(top, part, names)
-    return [Job(part, tuple(names), " ".join([part.name, *names]))]
+    words = (part.option, " ".join(names)) if part.option and names else tuple(names)
+    return [Job(part, words, " ".join([part.name, *names]))]

@@ -38,23 +38,35 @@ class Result:
         return max(len(self.skipped), self.more_skipped)
 
 
-def take(result: Result, said: str, status: int) -> None:
-    """Reads what a job printed: its last line has the counts."""
-    lines = said.splitlines()
+def counts_of(job: Job, lines: list[str]) -> tuple[int, int, int] | None:
+    """How much passed, failed and was skipped: what the last line says, or, of a part without counts, its rows."""
+    if job.part.row:
+        rows = [line for line in lines if job.part.row in line]
+        failed = sum("FAILED" in line for line in rows)
+        return len(rows) - failed, failed, 0
     found = LAST.fullmatch(lines[-1]) if lines else None
-    result.lines = lines[:-1] if found else lines
+    return (int(found[1]), int(found[2]), int(found[3] or 0)) if found else None
+
+
+def take(result: Result, said: str, status: int) -> None:
+    """Reads what a job printed."""
+    result.lines = said.splitlines()
     result.skipped = [skip[1] for line in result.lines if (skip := SKIPPED.match(line))]
-    if found is None:
+    counts = counts_of(result.job, result.lines)
+    why = ""
+    if counts is None:
+        why = f"it did not come to its end (status {status})"
+    else:
+        result.passed, result.failed, result.more_skipped = counts
+        if not result.job.part.row:
+            result.lines.pop()
+        if status and not result.failed:
+            why = f"it ended with status {status}"
+        elif not (result.passed or result.failed or result.count_of_skipped):
+            why = "no test ran"
+    if why:
         result.failed = 1
-        result.lines.append(f"FAILED {result.job.name}: it did not come to its end (status {status})")
-        return
-    result.passed, result.failed, result.more_skipped = (int(number or 0) for number in found.groups())
-    if not result.failed and status:
-        result.failed = 1
-        result.lines.append(f"FAILED {result.job.name}: it ended with status {status}")
-    elif not (result.passed or result.failed or result.count_of_skipped):
-        result.failed = 1
-        result.lines.append(f"FAILED {result.job.name}: no test ran")
+        result.lines.append(f"FAILED {result.job.name}: {why}")
 
 
 class Runner:
