@@ -2,6 +2,7 @@
 from __future__ import annotations
 
 import os
+import re
 import shutil
 import subprocess
 import time
@@ -72,6 +73,12 @@ class Runs(Launcher):
         for name in ("find", "cat", "sh"):
             (few / name).symlink_to(shutil.which(name) or "")
         self.assert_runs(PATH=str(few))
+
+    def test_a_find_that_reads_no_lists(self) -> None:
+        find = 'case $* in *-files0-from*) echo unknown >&2; exit 1 ;; esac; exec /usr/bin/find "$@"'
+        write(self.folder / "bin" / "find", f"#!/bin/sh\n{find}\n", 0o755)
+        for _ in range(2):
+            self.assert_runs(PATH=f"{self.folder / 'bin'}:/usr/bin:/bin")
 
     def test_in_a_read_only_checkout(self) -> None:
         if os.geteuid() == 0 and not shutil.which("setpriv"):
@@ -237,6 +244,16 @@ class OtherMachines(Launcher):
         path = self.stand_in("node", '[ "$1" = --experimental-wasm-memory64 ] || exit 200; [ $# -gt 2 ] || exit 128; echo "$@"')
         done = self.run_uxn(*HELLO, PATH=path)
         self.assertEqual(done.stdout, f"--experimental-wasm-memory64 {self.top}/dist/uxn.mjs play hello.tal\n")
+
+    @unittest.skipUnless((TOP / "dist/uxn.wasm").exists() and shutil.which("node"), "there is no dist/uxn.wasm, or no node")
+    def test_glibc_too_old_and_the_node_that_is_here(self) -> None:
+        self.break_program()
+        shutil.copy(TOP / "dist/uxn.wasm", self.top / "dist")
+        write(self.top / "dist/manifest.json", distribution.manifest_text(self.top, self.top / "dist", "x"))
+        if not re.match(r"v[2-9]\d", subprocess.run(["node", "--version"], capture_output=True, text=True, check=False).stdout):
+            self.skipTest("node is older than 20")
+        self.assert_runs()
+        self.assertTrue((self.top / CHOSEN).read_text().startswith("node"))
 
     def test_another_system(self) -> None:
         path = self.stand_in("uname", 'case $1 in -s) echo Darwin ;; *) echo arm64 ;; esac')

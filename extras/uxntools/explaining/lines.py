@@ -194,5 +194,5 @@ ENDED = {
     "file beneath the root.",
     137: "An output stream failed: whoever read it has gone, it is closed, or its disk is full.",
     138: "There was not enough memory.",
-    200: "The launcher could not build the program: crates/uxn_program/out/build.log says why.",
+    200: "The launcher has no program to run: the line on the error output says why.",
 }

@@ -13,7 +13,7 @@ from uxntools.testing.running import Result
 # The kinds of faults that are recorded only by name.
 REFUSAL, EARLY, CUT, MISS = "refusal", "early", "cut", "miss"
 ALLOWED = (REFUSAL, EARLY, CUT, MISS)
-# 200 is of a launcher that could not build the program.
+# 200 is of a launcher that has no program to run.
 REFUSED_STATUSES = {*program.REFUSED, 200}
 
 
