@@ -17,7 +17,6 @@ static void write_ppm(FILE *file) { put_picture(file); }
 static void start(void) { store_port_short(0x22, screen_width()), store_port_short(0x24, screen_height()); }
 
 static const char *picture;
-
 static void finish_if(int is_end)
 {
     FILE *file = (is_end || port(0x0f)) && strcmp(picture, "-") ? fopen(picture, "wb") : NULL;

@@ -1,7 +1,6 @@
 """Random sources on two assemblers: a difference is made smaller and kept, once for each cause."""
 from __future__ import annotations
 
-import os
 import random
 import re
 import tempfile
@@ -9,11 +8,11 @@ import time
 from collections.abc import Iterator
 from dataclasses import dataclass
 
-from conform import execute, random_sources, second, shrink, tests
+from conform import execute, random_sources, second, shrink
 from conform.differences import FAULT
 from conform.execute import Command
 from conform.random_sources import Source
-from conform.tests import PROFILE_KINDS, Test
+from conform.tests import PROFILE_KINDS, Test, Tree
 
 SECONDS = 5
 TRIALS = 400
@@ -45,7 +44,7 @@ class Assemblers:
 
     def outcomes(self, source: Source) -> tuple[Outcome, Outcome]:
         """What both give."""
-        files = {path: data.hex() for path, data in source.all_files().items()}
+        files: Tree = {path: data.hex() for path, data in source.all_files().items()}
         uxn = Command((self.uxn, "asm", "{source}", "--out", "{rom}"))
         found = []
         for command in (uxn, self.other):

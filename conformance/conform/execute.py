@@ -17,7 +17,7 @@ from dataclasses import dataclass, field
 from conform import differences, sdl, tests
 from conform.cli import Failure
 from conform.differences import Got
-from conform.tests import Test, Tree
+from conform.tests import Event, Test, Tree
 
 PASSED, FAILED, NOT_RUN = "passed", "failed", "not run"
 PLACES = re.compile(r"\{(rom|args|events|sdl|clock|frames|picture|samples|source|symbols)\}")
@@ -106,7 +106,7 @@ def call(words: list[str], folder: str, stdin: bytes, seconds: float) -> Got:
 
 def clock_of(test: Test) -> str:
     """The moment of a test's clock: seconds since 1970, the offset of its zone added."""
-    found = next((event for event in test.events or [] if event[0] == "clock"), ["clock", 0, 0])
+    found: Event = next((event for event in test.events or [] if event[0] == "clock"), ["clock", 0, 0])
     return str(found[1] + 60 * (found[2] if len(found) > 2 else 0))
 
 

@@ -2,6 +2,7 @@
 from __future__ import annotations
 
 import hashlib
+import json
 import os
 from collections.abc import Iterator
 
@@ -9,21 +10,27 @@ from conform import tests
 
 TOP = os.path.dirname(tests.TOP)
 SUMS = os.path.join(tests.TOP, "suite.sums")
+TRIED = os.path.join(tests.TOP, "tried.sum")
 # What the suite is made from and by, beside the program, on which the suite is run in each gate.
-MADE_FROM = ("cases", "examples", "conformance/sources", "conformance/second", "conformance/adapters/uxn")
+MADE_FROM = ("cases/parts", "cases/stored.py", "examples", "conformance/sources", "conformance/second", "conformance/adapters/uxn")
 MADE_BY = (
     "bugs cases cli degenerates differences drafts execute from_cases gather instructions language making scripts sdl second sweeps "
     "tests twins"
 ).split()
 # What lies there and does not go into the suite.
-NOT_READ = ("cases/run", "cases/isolation", "cases/isolation.calls", "cases/random", "cases/memory", "cases/README.md", "cases/limits.txt",
-            "cases/differing.py", "cases/requested.py", "cases/phases.py", "conformance/second/planted.json", "conformance/second/bugs.json",
-            "examples/README.md")
+NOT_READ = ("conformance/second/planted.json", "conformance/second/bugs.json", "examples/README.md")
+
+
+def case_folders() -> list[str]:
+    """The folders of cases that tests are made of."""
+    with open(os.path.join(tests.TOP, "sources", "cases.json"), encoding="utf-8") as file:
+        patterns = [rule["pattern"] for rule in json.load(file)]
+    return sorted({f"cases/{pattern.split('/')[0]}" for pattern in patterns if "/" in pattern})
 
 
 def paths() -> Iterator[str]:
     """The files that the suite is made from, as paths from the top."""
-    for name in MADE_FROM:
+    for name in (*case_folders(), *MADE_FROM):
         place = os.path.join(TOP, name)
         if os.path.isfile(place):
             yield name
@@ -67,3 +74,26 @@ def stored() -> tuple[str, str]:
         return lines[0][0], lines[1][0]
     except (OSError, IndexError):
         return "", ""
+
+
+def of_all() -> str:
+    """The sum of what the steps of conformance/test depend on that need no PROGRAM: the suite, the second programs, the tools."""
+    digest = hashlib.sha256(f"{of_inputs()} {of_suite()}".encode())
+    names = [f"conformance/conform/{name}" for name in sorted(os.listdir(os.path.join(tests.TOP, "conform"))) if name.endswith(".py")]
+    names += ["conformance/COVERAGE.md", "conformance/second/bugs.json", "conformance/run", "conformance/coverage", "conformance/test"]
+    digest.update(sum_of(iter(names)).encode())
+    return digest.hexdigest()
+
+
+def write_tried() -> None:
+    with open(TRIED, "w", encoding="ascii") as file:
+        file.write(of_all() + "\n")
+
+
+def is_tried() -> bool:
+    """Whether nothing changed since all steps passed."""
+    try:
+        with open(TRIED, encoding="ascii") as file:
+            return file.read().strip() == of_all()
+    except OSError:
+        return False

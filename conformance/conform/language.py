@@ -17,7 +17,8 @@ SIGN_NAMES = dict(
     )
 )
 RUNES = ",_.-;=!?"
-PROFILE_STARTS = "()"
+# What rests on limits, which the references leave.
+OF_PROFILE = ("text-of-254-bytes", "macros-300", "labels-1000", "lambda-deep")
 
 
 def draft(
@@ -48,11 +49,11 @@ def names() -> Iterator[Draft]:
     yield draft("names-of-all-signs", "signs that begin no name may be in it, and begin the names of sublabels",
                 "@a " + " ".join(f"@x{sign} ;x{sign}" for sign in SIGNS)
                 + " @a-b " + " ".join(f"&{sign}y ;a-b/{sign}y" for sign in SIGNS if sign not in "({") + "\n", about)
-    body = b"".join(b"@n" + bytes([byte]) + b" ;n" + bytes([byte]) + b"\n" for byte in range(0x21, 0x100))
-    yield draft("names-of-all-bytes", "a name may hold each byte above 20", body, about)
+    inner = b"".join(b"@n" + bytes([byte]) + b" ;n" + bytes([byte]) + b"\n" for byte in range(0x21, 0x100))
+    yield draft("names-of-all-bytes", "a name may hold each byte above 20", inner, about)
     first = [byte for byte in range(0x21, 0x100) if chr(byte) not in SIGNS]
-    body = b"".join(bytes([byte]) + b"-z @" + bytes([byte]) + b"-z\n" for byte in first)
-    yield draft("names-by-first-byte", "a name may begin with each byte that is not reserved", body, about)
+    begun = b"".join(bytes([byte]) + b"-z @" + bytes([byte]) + b"-z\n" for byte in first)
+    yield draft("names-by-first-byte", "a name may begin with each byte that is not reserved", begun, about)
     good = "ADD22 ADD3 ADDx add Add BRK2 BRKk BRKr LIT3 abc abcde AB ABCD f 1 123 12345 0x 12x x12 g0 a-1 ADD2krr LIT2rr ADDs".split()
     body = "\n".join(f"{word} ;{word} @{word}" for word in good)
     yield draft("names-near-others", "names that are nearly instructions or numbers", body + "\n", about)
@@ -261,7 +262,8 @@ def includes() -> Iterator[Draft]:
     about = "Uxntal syntax: ~ includes"
     deep = {"lib/b.tal": "#0b ~lib/c.tal\n", "lib/c.tal": "#0c\n", "b.tal": "#bb\n", "c.tal": "#cc\n"}
     found = draft("include-from-the-folder-of-the-source", "paths begin at the folder of the source", "~lib/b.tal ~c.tal\n", about)
-    found.files = {f"src/{path}": text.encode().hex() for path, text in deep.items()} | {"c.tal": b"#ff".hex(), "lib/c.tal": b"#fe".hex()}
+    found.files = {"c.tal": b"#ff".hex(), "lib/c.tal": b"#fe".hex()}
+    found.files.update({f"src/{path}": text.encode().hex() for path, text in deep.items()})
     found.place, found.profile = "src/a.tal", True
     yield found
     found = draft("include-from-two-folders", "a source two folders below", "~b.tal\n@a ~x/y/z.tal ;z\n", about)
@@ -290,7 +292,7 @@ def includes() -> Iterator[Draft]:
 def first_faults() -> Iterator[Draft]:
     """Which of two faults is reported: profile, since the references name no order."""
     pairs = {
-        "stray-parenthesis-before-a-number": ("#123 ;nothing )", ")"), "comment-before-a-word": (") ( open", "(open"), "number-before-a-name": (";nothing #123", "#123"),
+        "stray-parenthesis-before-a-number": ("#123 ;nothing )", ")"), "parenthesis-before-a-comment": (") ( open", ")"), "number-before-a-name": (";nothing #123", "#123"),
         "macro-before-a-number": ("#123 %m INC", "%m"), "number-before-a-label": ("@a @a #123", "#123"), "label-before-a-reference": (";nothing @a @a", "@a"),
         "zero-page-before-a-reference": (";nothing |80 INC", "INC"), "first-of-two-references": (";one ;two", ";one"), "first-of-two-numbers": ("#123 #456", "#123"),
         "first-of-two-labels": ("@a @b @b @a", "@b"), "far-before-a-name": (",far $90 @far ;nothing", ",far"), "name-before-a-far-one": (";nothing ,far $90 @far", ";nothing"),
@@ -341,5 +343,6 @@ def drafts() -> list[Draft]:
             # No two names differ only in their case, since some disks see no difference.
             while item.name.lower() in found:
                 item.name += "-more"
+            item.profile = item.profile or item.name.split("/")[1] in OF_PROFILE
             found[item.name.lower()] = item
     return list(found.values())

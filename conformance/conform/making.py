@@ -13,7 +13,7 @@ from conform.cli import Failure
 from conform.differences import Got
 from conform.drafts import Draft
 from conform.execute import Command
-from conform.second import SECONDS, Tools, second_command, uxn_command, write_file
+from conform.second import SECONDS, Tools, uxn_command, write_file
 from conform.tests import PROFILE_KINDS, Test, Tree, Twin
 
 LARGEST = 60_000
@@ -62,7 +62,7 @@ def assembled(draft: Draft, tools: Tools) -> tuple[Got, bytes]:
 def packed_tree(files: dict[str, bytes], draft: Draft) -> Tree | None:
     """Files as the manifest has them; a long one that the draft has stays as short as there."""
     given = draft.files or {}
-    found = {path: None for path, data in given.items() if data is None}
+    found: Tree = {path: None for path, data in given.items() if data is None}
     for path, data in files.items():
         if path == source_place(draft) and len(data) <= LARGEST:
             continue
@@ -79,7 +79,7 @@ def make_twin(draft: Draft, tools: Tools, suite: str) -> Twin:
     if draft.twin is not None or draft.twin_files is not None:
         files.update({path: tests.unpacked(data or "") for path, data in (draft.twin_files or {}).items()})
         files[source] = draft.twin.encode("latin-1") if draft.twin is not None else files[source]
-        found = (files, assembled_files(files, folders, source, tools)[0])
+        found: tuple[dict[str, bytes], Got] | None = (files, assembled_files(files, folders, source, tools)[0])
     else:
         found = twins.repaired(files, source, lambda files: outcome_of(files, folders, source, tools))
     if found is None or found[1].status != 0:
@@ -93,8 +93,9 @@ def make_twin(draft: Draft, tools: Tools, suite: str) -> Twin:
 def make_assembler_test(draft: Draft, tools: Tools, suite: str) -> Test:
     """A source with its ROM and its symbol file, or the fault for which it is refused."""
     got, listing = assembled(draft, tools)
-    if draft.case and (said := from_cases.faults_of_source(draft.case, got)):
-        raise Failure(f"{draft.name} differs from its case: {said[0]}")
+    differing = from_cases.faults_of_source(draft.case, got) if draft.case else []
+    if differing:
+        raise Failure(f"{draft.name} differs from its case: {differing[0]}")
     test = Test(draft.name, draft.shows, draft.reference, draft.level, f"{draft.name}.tal", profile=draft.profile)
     test.files, test.place = draft.files, draft.place
     # That these opcodes may be written as words is a choice of this project.
@@ -109,8 +110,11 @@ def make_assembler_test(draft: Draft, tools: Tools, suite: str) -> Test:
     kind = from_cases.kind_of(got.err)
     if got.status != 131 or not kind:
         raise Failure(f"{draft.name}: uxn asm ended with {got.status}: {got.err!r}")
+    if draft.names and draft.names.encode() not in got.err.split(b": ", 2)[-1]:
+        raise Failure(f"{draft.name}: uxn asm does not name {draft.names}: {got.err!r}")
     test.want.refused, test.want.names = kind, draft.names
-    test.want.fault = differences.FAULT.search(got.err.decode(errors="backslashreplace"))[1]
+    said = differences.FAULT.search(got.err.decode(errors="backslashreplace"))
+    test.want.fault = said[1] if said else None
     test.profile = test.profile or kind in PROFILE_KINDS
     test.twin = make_twin(draft, tools, suite)
     return test

@@ -73,8 +73,8 @@ def group(rng: random.Random) -> str:
     """Words with braces or brackets."""
     inner = " ".join(rng.choice((opcode, number))(rng) for _ in range(rng.randrange(3)))
     forms = (
-        "[ 12 ]", "[", "]", f"{{ {inner} }}", f"?{{ {inner} }}", f"!{{ {inner} ?{{ {opcode(rng)} }} }}", f";{{ {inner} }}", f"={{ 00 }}", f",{{ {inner} }}",
-        f".{{ 01 }}", f"_{{ 02 }}", f"-{{ 03 }}",
+        "[ 12 ]", "[", "]", f"{{ {inner} }}", f"?{{ {inner} }}", f"!{{ {inner} ?{{ {opcode(rng)} }} }}", f";{{ {inner} }}", "={ 00 }", f",{{ {inner} }}",
+        ".{ 01 }", "_{ 02 }", "-{ 03 }",
     )
     return rng.choice(forms)
 
