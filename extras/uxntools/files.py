@@ -85,6 +85,8 @@ def _refuse_size(path: str, size: int, kind: Kind) -> None:
 def read(path: str, kind: Kind = SOURCE) -> bytes:
     """The bytes of a regular file. One whose size is 0 has none: what a file of the system's own would give is not
     waited for."""
+    if "\0" in path:
+        raise FileNotFoundError(errno.ENOENT, os.strerror(errno.ENOENT), path)
     _refuse_kind(path, os.stat(path).st_mode)
     handle = os.open(path, os.O_RDONLY | os.O_NONBLOCK | os.O_NOCTTY | os.O_CLOEXEC)
     try:
