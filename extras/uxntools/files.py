@@ -440,7 +440,8 @@ def mounts_beneath(folder: str) -> list[str]:
 def look_at_folder(folder: str) -> None:
     """Refuses a folder over which a program runs as it is, where a name of it leads out. A link may lead to what lies
     in the folder, or to a file that the user may not write. What git keeps is left alone."""
-    top, named = os.path.join(os.path.realpath(folder), ""), {}
+    top = os.path.join(os.path.realpath(folder), "")
+    named: dict[int, tuple[int, str]] = {}
     for inner in mounts_beneath(folder):
         raise Refused(inner, "it is another file system, and the program could write there")
     for place, folders, names in os.walk(folder):
