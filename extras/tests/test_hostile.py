@@ -341,6 +341,20 @@ class Long(Hostile):
         self.assertIn("`asm --symbols` writes longer ones", said)
 
 
+class Faulty(Hostile):
+    def test_a_faulty_script_is_refused_as_by_uxn(self) -> None:
+        for line, kind in (("frame x", "BadValue"), ("input 0", "BadValue"), ("key", "Missing"), ("key 41 1 1", "Extra")):
+            self.write("s", f"{line}\n".encode())
+            for words in (("uxn-trace", "game.tal"), ("uxn-watch", "game.tal", "name"), ("uxn-debug", "game.tal")):
+                self.refused(f"script 1: {kind}", *words, "--script", "s", status=132)
+
+    def test_a_name_with_a_zero_byte(self) -> None:
+        self.write("tests/t.setup", b"machine a\0b\nmachine game.tal\nscript \0\n")
+        self.refused("setup 1: BadValue", "uxn-test")
+        self.refused("setup 1: BadValue", "uxn-sandbox", "line", "tests/t.setup", status=139)
+        self.refused("setup 1: BadValue", "uxn-explain", "uxn", "line", "tests/t.setup", status=139)
+
+
 class Closed(Hostile):
     def test_every_tool_with_closed_streams(self) -> None:
         calls = (*Inputs.TOOLS, ("uxn-lsp",), ("uxn-text-to-script",), ("uxn-manual",), ("uxn-test",), ("uxn-fmt",))

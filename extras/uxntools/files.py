@@ -85,6 +85,8 @@ def _refuse_size(path: str, size: int, kind: Kind) -> None:
 def read(path: str, kind: Kind = SOURCE) -> bytes:
     """The bytes of a regular file. One whose size is 0 has none: what a file of the system's own would give is not
     waited for."""
+    if "\0" in path:
+        raise FileNotFoundError(errno.ENOENT, os.strerror(errno.ENOENT), path)
     _refuse_kind(path, os.stat(path).st_mode)
     handle = os.open(path, os.O_RDONLY | os.O_NONBLOCK | os.O_NOCTTY | os.O_CLOEXEC)
     try:
@@ -438,7 +440,8 @@ def mounts_beneath(folder: str) -> list[str]:
 def look_at_folder(folder: str) -> None:
     """Refuses a folder over which a program runs as it is, where a name of it leads out. A link may lead to what lies
     in the folder, or to a file that the user may not write. What git keeps is left alone."""
-    top, named = os.path.join(os.path.realpath(folder), ""), {}
+    top = os.path.join(os.path.realpath(folder), "")
+    named: dict[int, tuple[int, str]] = {}
     for inner in mounts_beneath(folder):
         raise Refused(inner, "it is another file system, and the program could write there")
     for place, folders, names in os.walk(folder):

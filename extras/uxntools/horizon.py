@@ -41,7 +41,12 @@ class Horizon:
         self.workspace = workspace
         self.whole = workspace.shortened
         self.script = workspace.script() if self.whole is None else self.whole
-        self.most = events.count(self.script)
+        try:
+            self.most = events.count(self.script)
+        except (ValueError, IndexError):
+            # `uxn` says what is wrong with it.
+            workspace.play(self.script)
+            raise
         # By the event and the budget.
         self._counts: dict[tuple[int, int | None], tuple[int, int]] = {}
         if whole:

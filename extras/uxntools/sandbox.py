@@ -76,7 +76,7 @@ class Call:
 
 def is_path(name: str) -> bool:
     """Whether `uxn` takes this as the path of a file (it looks closer yet)."""
-    return bool(name) and all(part not in ("", ".", "..") for part in name.split("/"))
+    return bool(name) and "\0" not in name and all(part not in ("", ".", "..") for part in name.split("/"))
 
 
 def _options(words: list[str]) -> Iterator[tuple[str, str]]:

@@ -71,7 +71,8 @@ def machines(setup: str) -> list[str]:
         found = [line.split() for line in files.read(setup, files.SETUP).split(b"\n")]
     except OSError:
         return []
-    return [os.fsdecode(words[1]) for words in found if len(words) == 2 and words[0] == b"machine"]
+    named = (words[1] for words in found if len(words) == 2 and words[0] == b"machine")
+    return [os.fsdecode(name) for name in named if b"\0" not in name]
 
 
 def faulty_machine(setup: str, line: str) -> tuple[int, str] | None:

@@ -106,7 +106,7 @@ class Files:
         """What changes where the file on the disk does."""
         try:
             found = os.stat(path)
-        except OSError:
+        except (OSError, ValueError):
             return 0, -1
         return found.st_mtime_ns, found.st_size
 

@@ -54,7 +54,7 @@ def _stamp(path: str) -> tuple[int, int, int, int] | None:
     """What the system says of a file; None where it is not there."""
     try:
         found = os.stat(path)
-    except OSError:
+    except (OSError, ValueError):
         return None
     return found.st_size, found.st_mtime_ns, found.st_ctime_ns, found.st_ino
 

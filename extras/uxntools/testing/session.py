@@ -1,7 +1,6 @@
 """A session of tests: which of them need a run, the runs side by side, and the outcome of each in order."""
 from __future__ import annotations
 
-import os
 import time
 from collections.abc import Callable, Iterator, Sequence
 from concurrent.futures import Future, ThreadPoolExecutor

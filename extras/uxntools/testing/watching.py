@@ -17,7 +17,7 @@ def stamp(path: str) -> Stamp:
     """What tells a change of a file; None where it is not there."""
     try:
         found = os.stat(path)
-    except OSError:
+    except (OSError, ValueError):
         return None
     return found.st_size, found.st_mtime_ns, found.st_ino
 
