@@ -11,6 +11,7 @@ from concurrent.futures import ThreadPoolExecutor
 from dataclasses import dataclass, field
 
 from conform import execute, second, tests
+from conform.cli import Failure
 from conform.execute import Command
 from conform.instructions import IMMEDIATE, MODES, NAMES, name_of
 from conform.tests import Test
@@ -75,7 +76,10 @@ def measure(suite: str, emulator: str, jobs: int) -> Coverage:
 
 def fault_kinds() -> list[str]:
     """The kinds of faults that a source can have, by docs/uxntal.md; one of them no command gives."""
-    with open(os.path.join(tests.TOP, "..", "docs", "uxntal.md"), encoding="utf-8") as file:
+    path = os.path.join(tests.TOP, "..", "docs", "uxntal.md")
+    if not os.path.isfile(path):
+        raise Failure("the kinds of faults are those of docs/uxntal.md of the whole repository, which is not here", 2)
+    with open(path, encoding="utf-8") as file:
         found = re.findall(r"(?m)^\| [\d, ]+ \| ([A-Z][A-Za-z, ]+) \|", file.read())
     return sorted({kind for cell in found for kind in cell.split(", ")} - {"IncludeHere"})
 
