@@ -147,6 +147,10 @@ line needs. With `{events}`, `{frames}`, `{samples}` and `--profile` all lines h
 - The texts of messages, except a word and the form that the README names.
 - Sources of more than four megabytes, and what a limit is where it is greater than `uxn`'s.
 - Bugs that show only after several devices act together in an unusual order.
+
+`conformance/planted` plants 351 bugs into the second programs, one after the other, in all that the
+lines above name. The suite finds all of them. The bugs are by the authors of the suite, so bugs of
+others are found less often.
 """
 
 
@@ -159,6 +163,7 @@ def page(found: Coverage) -> str:
         "",
         "`conformance/coverage` writes this page from runs of the second emulator, and the gate holds it to",
         "them. A test counts once for a row. What runs the cases of the processor's tests does not count.",
+        *CLAIMS.rstrip().split("\n"),
         "",
         "## Instructions",
         "",
@@ -177,6 +182,5 @@ def page(found: Coverage) -> str:
         "## Kinds of faults",
         "",
         *listed([(kind, found.faults[kind]) for kind in fault_kinds()]),
-        *CLAIMS.rstrip().split("\n"),
     ]
     return "\n".join(lines) + "\n"
