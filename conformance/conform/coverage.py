@@ -11,6 +11,7 @@ from concurrent.futures import ThreadPoolExecutor
 from dataclasses import dataclass, field
 
 from conform import execute, second, tests
+from conform.cli import Failure
 from conform.execute import Command
 from conform.instructions import IMMEDIATE, MODES, NAMES, name_of
 from conform.tests import Test
@@ -75,7 +76,10 @@ def measure(suite: str, emulator: str, jobs: int) -> Coverage:
 
 def fault_kinds() -> list[str]:
     """The kinds of faults that a source can have, by docs/uxntal.md; one of them no command gives."""
-    with open(os.path.join(tests.TOP, "..", "docs", "uxntal.md"), encoding="utf-8") as file:
+    path = os.path.join(tests.TOP, "..", "docs", "uxntal.md")
+    if not os.path.isfile(path):
+        raise Failure("the kinds of faults are those of docs/uxntal.md of the whole repository, which is not here", 2)
+    with open(path, encoding="utf-8") as file:
         found = re.findall(r"(?m)^\| [\d, ]+ \| ([A-Z][A-Za-z, ]+) \|", file.read())
     return sorted({kind for cell in found for kind in cell.split(", ")} - {"IncludeHere"})
 
@@ -143,6 +147,10 @@ line needs. With `{events}`, `{frames}`, `{samples}` and `--profile` all lines h
 - The texts of messages, except a word and the form that the README names.
 - Sources of more than four megabytes, and what a limit is where it is greater than `uxn`'s.
 - Bugs that show only after several devices act together in an unusual order.
+
+`conformance/planted` plants 351 bugs into the second programs, one after the other, in all that the
+lines above name. The suite finds all of them. The bugs are by the authors of the suite, so bugs of
+others are found less often.
 """
 
 
@@ -155,6 +163,7 @@ def page(found: Coverage) -> str:
         "",
         "`conformance/coverage` writes this page from runs of the second emulator, and the gate holds it to",
         "them. A test counts once for a row. What runs the cases of the processor's tests does not count.",
+        *CLAIMS.rstrip().split("\n"),
         "",
         "## Instructions",
         "",
@@ -173,6 +182,5 @@ def page(found: Coverage) -> str:
         "## Kinds of faults",
         "",
         *listed([(kind, found.faults[kind]) for kind in fault_kinds()]),
-        *CLAIMS.rstrip().split("\n"),
     ]
     return "\n".join(lines) + "\n"
