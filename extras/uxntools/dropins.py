@@ -15,8 +15,6 @@ from uxntools import attached, files, program, source, symbols
 from uxntools.cli import Failure, shown
 
 REFUSAL = re.compile(r"source (?:(?P<path>.*) )?(?P<place>\d+:\d+): (?P<kind>[A-Z]\w+): (?P<word>.*)", re.DOTALL)
-# A script has at most 1,000,000 events: one for each byte of input, and one for its end.
-MOST_INPUT = 999_999
 MOST_BUDGET = 4_294_967_295
 OUTPUT_CLASHES = 135
 
@@ -134,9 +132,9 @@ def input_of_call() -> bytes:
     if sys.stdin is None or sys.stdin.isatty():
         return b""
     try:
-        return files.read_input(MOST_INPUT)
+        return files.read_input(script.MOST_INPUT)
     except files.Refused:
-        raise Failure(f"the input has more than {MOST_INPUT:,} bytes") from None
+        raise Failure(f"the input has more than {script.MOST_INPUT:,} bytes") from None
 
 
 def play(rom: str, arguments: list[bytes]) -> int:

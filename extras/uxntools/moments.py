@@ -4,8 +4,9 @@ from __future__ import annotations
 
 from collections.abc import Iterator, Sequence
 from dataclasses import dataclass
+from functools import lru_cache
 
-from uxntools import log
+from uxntools import log, opcodes
 from uxntools.log import MOST_COMMANDS
 from uxntools.target import Workspace
 
@@ -17,6 +18,9 @@ WORKING_POINTER, RETURN_POINTER = 0x04, 0x05
 REST_OF_LOOK = ("stacks", "ports")
 LOOK = ("where", *REST_OF_LOOK)
 LINES_OF_LOOK = sum(map(log.lines_shown, LOOK))
+# The lines of `step 1` and `stacks`, and how many of these one session has room for.
+LINES_OF_STEP = 3
+CHUNK = MOST_COMMANDS // 2 - 8
 MOST_STEP = 4294967295
 
 
@@ -27,6 +31,8 @@ class Stack:
 
     depth: int
     top: bytes
+    # The byte below the pointer, also of an empty stack.
+    last: int = 0
 
     def __str__(self) -> str:
         dots = ".. " if self.depth > len(self.top) else ""
@@ -50,7 +56,7 @@ class State:
 
 
 def stack(depth: int, top: bytes) -> Stack:
-    return Stack(depth, top[len(top) - min(depth, len(top)) :])
+    return Stack(depth, top[len(top) - min(depth, len(top)) :], top[-1])
 
 
 def state(lines: Sequence[str]) -> State:
@@ -87,21 +93,63 @@ def last(workspace: Workspace, commands: Sequence[str], count: int = 1) -> list[
 
 def trace(workspace: Workspace, first: int, count: int) -> Iterator[State]:
     """The states from a moment on, so many, or up to the end, which is the last then."""
-    chunk = MOST_COMMANDS // len(LOOK) - 2
     while count > 0:
-        size = min(count, chunk)
-        commands = [*to(first), *LOOK]
-        for _ in range(size - 1):
-            commands += ["step 1", *REST_OF_LOOK]
-        lines = workspace.debug(commands)
-        at = len(lines) - size * LINES_OF_LOOK
-        for _ in range(size):
-            found = state(lines[at : at + 4])
+        shown = 0
+        for found in _chunk(workspace, first, min(count, CHUNK)):
             yield found
             if found.is_end:
                 return
-            at += LINES_OF_LOOK
-        first, count = first + size, count - size
+            shown += 1
+        first, count = first + shown, count - shown
+
+
+def _chunk(workspace: Workspace, first: int, count: int) -> Iterator[State]:
+    """The states from a moment on, up to one after which a store to a port moves a pointer. The ports, which are long,
+    are asked for at the first: from there on the names of the instructions say how deep the stacks are."""
+    commands = [*to(first), *LOOK] + ["step 1", "stacks"] * (count - 1)
+    lines = workspace.debug(commands)
+    at = len(to(first))
+    found = state(lines[at : at + LINES_OF_LOOK])
+    yield found
+    at += LINES_OF_LOOK
+    for _ in range(count - 1):
+        if _moves_a_pointer(found):
+            return
+        found = _after(found, lines[at : at + LINES_OF_STEP])
+        yield found
+        if found.is_end:
+            return
+        at += LINES_OF_STEP
+
+
+def _after(before: State, lines: Sequence[str]) -> State:
+    """The state after an instruction, by what `step` and `stacks` show."""
+    working, returning = _growth(before.name)
+    both, place = log.stacks(lines[1:]), log.place(lines[0])
+    stacks = (
+        stack((before.working.depth + working) % 256, both.working),
+        stack((before.returning.depth + returning) % 256, both.returning),
+    )
+    if place is None:
+        return State(log.end(lines[0]) or 0, None, "end", "", *stacks)
+    return State(place.count, place.address, place.name, place.label, *stacks)
+
+
+@lru_cache
+def _growth(name: str) -> tuple[int, int]:
+    """By how many bytes an instruction makes both stacks grow."""
+    found = opcodes.instruction(name)
+    if found is None:
+        return 0, 0
+    return (found.other_growth, found.growth) if found.in_return_mode else (found.growth, found.other_growth)
+
+
+def _moves_a_pointer(found: State) -> bool:
+    """Whether an instruction stores to a port that holds the pointer of a stack."""
+    if not found.name.startswith("DEO"):
+        return False
+    port = (found.returning if "r" in found.name else found.working).last
+    return WORKING_POINTER - ("2" in found.name) <= port <= RETURN_POINTER
 
 
 def next_at(workspace: Workspace, address: int, first: int = 0) -> tuple[int, bool]:

@@ -7,6 +7,8 @@ from dataclasses import dataclass
 
 BLANKS = re.compile(rb"[\t\r ]+")
 BYTE = re.compile(rb"[0-9a-fA-F]{2}")
+# A script has at most 1,000,000 events: one for each byte of input, and one for its end.
+MOST_INPUT = 999_999
 
 
 @dataclass(frozen=True)

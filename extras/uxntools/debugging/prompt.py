@@ -339,6 +339,9 @@ def save(session: Session, name: str) -> None:
     ):
         files.copy_root(session.workspace.path(target.root), f"{name}.root")
         print(f"written: {name}.root")
+    recorded = saving.record_outputs(name)
+    if recorded:
+        print(f"written: {', '.join(recorded)}")
 
 
 class Command:

@@ -5,7 +5,11 @@ from __future__ import annotations
 from collections.abc import Sequence
 
 from uxntools import log
+from uxntools.cli import Failure
 from uxntools.debugging.session import Record, Session
+from uxntools.testing import updating
+from uxntools.testing.discovery import discover
+from uxntools.testing.running import run
 
 # The greatest N of `back N`.
 MOST_BACK = 65536
@@ -78,3 +82,17 @@ def saved(session: Session) -> tuple[bytes, bytes]:
         "".join(f"{line}\n" for line in lines).encode("latin-1"),
         "".join(f"{line}\n" for line in shown).encode("latin-1"),
     )
+
+
+def record_outputs(name: str) -> list[str]:
+    """Records what the saved test prints and changes, as `uxn-test --update` does, where `uxn-test` finds it; answers
+    the files that were written."""
+    try:
+        test = discover([name])[0]
+        made = updating.recording(test, run(test), frozenset())
+    except Failure:
+        return []
+    if made.refused:
+        return []
+    updating.write(test, made)
+    return [test.path(part) for part, data in made.parts.items() if data is not None] + [test.path("after")] * bool(made.after)

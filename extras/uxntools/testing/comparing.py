@@ -13,6 +13,9 @@ from uxntools.testing.running import Result
 # The kinds of faults that are recorded only by name.
 REFUSAL, EARLY, CUT, MISS = "refusal", "early", "cut", "miss"
 ALLOWED = (REFUSAL, EARLY, CUT, MISS)
+# An expect after the end of the run: nothing records that.
+UNREACHED = "unreached"
+NO_CALL = "could not be made, or the program ended so:"
 # 200 is of a launcher that has no program to run.
 REFUSED_STATUSES = {*program.REFUSED, 200}
 
@@ -81,9 +84,10 @@ def _ended(test: Test, result: Result) -> Fault | None:
         if result.status > 127
         else "was ended by a signal"
         if result.status < 0
-        else "was none"
+        else NO_CALL
     )
-    line = f"the call {how} with status {result.status}" + (f": {result.line}" if result.line else "")
+    said = "status" if how == NO_CALL else "with status"
+    line = f"the call {how} {said} {result.status}" + (f": {result.line}" if result.line else "")
     if result.status == -signal.SIGXFSZ:
         line = f"the call was ended: it has written a file of {program.MOST_WRITTEN:,} bytes"
     return Fault("status", line, kind=REFUSAL if is_refused else EARLY)
@@ -145,22 +149,37 @@ def _report(test: Test, result: Result) -> list[Fault]:
     if wanted_cuts(test) < 0:
         found.append(Fault("report", f"there is no number in the wanted line `cuts {lines['cuts']}`"))
     elif cuts != wanted_cuts(test):
-        cause = f"{cuts} vectors used up their budget" if cuts != 1 else "a vector used up its budget"
-        found.append(Fault("report", f"{cause} and was cut; wanted is {wanted_cuts(test)}", kind=CUT if cuts else ""))
+        found.append(Fault("report", f"{_cuts(cuts)}; wanted is {wanted_cuts(test)}", kind=CUT if cuts else ""))
     if misses != settings.misses:
         found.append(
             Fault(
                 "report",
-                f"{misses} of {result.count('expects')} expects missed" + _miss_hint(test, lines),
+                _misses(misses, result, settings.misses) + _miss_hint(test, lines),
                 kind=MISS if misses else "",
             )
         )
     expects = script_expects(test)
     if "expects" not in lines and result.count("expects") < expects:
         found.append(
-            Fault("report", f"the run ended before {expects - result.count('expects')} of its {expects} expects")
+            Fault(
+                "report",
+                f"the run ended before {expects - result.count('expects')} of its {expects} expects",
+                kind=UNREACHED,
+            )
         )
     return found
+
+
+def _cuts(count: int) -> str:
+    if not count:
+        return "no vector was cut"
+    return f"{count} vectors used up their budgets and were cut" if count > 1 else "a vector used up its budget and was cut"
+
+
+def _misses(count: int, result: Result, wanted: int) -> str:
+    if not count:
+        return f"no expect missed; wanted are {wanted} misses"
+    return f"{count} of {result.count('expects')} expects missed"
 
 
 def _miss_hint(test: Test, lines: dict[str, str]) -> str:

@@ -80,12 +80,17 @@ def _kinds(found: list[Fault]) -> dict[str, str]:
     return {fault.kind: fault.line for fault in found if fault.kind}
 
 
+def _refusal(kind: str, line: str) -> str:
+    """Why something is not recorded that was not allowed."""
+    return line if kind not in ALLOWED else f"not without --allow {kind}: {line}"
+
+
 def recording(test: Test, result: Result, allowed: frozenset[str]) -> Recording:
     """What is to be recorded of a result, shown beside what was wanted before. A refusal, an early end, a cut or a
     miss is recorded only where it is allowed."""
     made = Recording()
     kinds = _kinds(comparing.faults(test, result))
-    made.refused = [f"not without --allow {kind}: {line}" for kind, line in kinds.items() if kind not in allowed]
+    made.refused = [_refusal(kind, line) for kind, line in kinds.items() if kind not in allowed]
     if made.refused:
         return made
     parts = _new_parts(test, result, allowed)
