@@ -36,7 +36,6 @@ def complete(spot: Spot) -> Json:
                     "label": text,
                     "kind": kind,
                     "detail": detail,
-                    "filterText": text,
                     "textEdit": {"range": where, "newText": text},
                 }
             )
