@@ -42,6 +42,21 @@ at('@left')
 vim.cmd('normal! oprint-d')
 vim.fn.cursor(vim.fn.line('.'), 8)
 for _, item in ipairs(ask('textDocument/completion').items) do say('completed', item.label) end
+local function offered(text)
+  at('@left')
+  vim.cmd('normal! o' .. text)
+  local words
+  vim.fn.complete = function(start, items)
+    words = vim.tbl_map(function(item) return start .. ':' .. item.word end, items)
+    vim.api.nvim_input('<Esc>')
+  end
+  vim.defer_fn(function() if not words then vim.api.nvim_input('<Esc>') end end, 20000)
+  vim.api.nvim_feedkeys('A' .. vim.api.nvim_replace_termcodes('<C-X><C-O>', true, true, true), 'x!', true)
+  say('offered', text, table.concat(words or {}, ' '))
+  vim.cmd('undo')
+end
+offered(';print-d')
+offered('print-d')
 say('folds', #ask('textDocument/foldingRange') > 20 and 'many' or 'few')
 vim.cmd('qall!')
 """
@@ -86,7 +101,14 @@ class Neovim(ToolTest):
         self.assertTrue(said[2].startswith("label **print-digit** at "), said)
         self.assertEqual(
             [line for line in said[3:] if line and not line.startswith("`(")],
-            ["1 references", "print.tal 14", *(f"completed {name}" for name in PRINTING), "folds many"],
+            [
+                "1 references",
+                "print.tal 14",
+                *(f"completed {name}" for name in PRINTING),
+                "offered ;print-d 2:;print-digit",
+                "offered print-d 2:print-digit",
+                "folds many",
+            ],
         )
         self.assertIn("@show ( sign -- )", self.read("life/print.tal").decode())
         self.assertIn("\n\tBRK", self.read("life.tal").decode())

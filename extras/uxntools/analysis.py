@@ -11,7 +11,7 @@ from collections.abc import Callable, Iterator
 from functools import lru_cache
 from typing import NamedTuple
 
-from uxntools import opcodes, source
+from uxntools import includes, opcodes, source
 from uxntools.source import Word
 
 RUNES = b",_.-;=!?"
@@ -486,7 +486,8 @@ def lambdas(words: list[Placed]) -> dict[int, int]:
 
 
 def sources_that_include(path: str, read: Callable[[str], bytes] = source.read, top: str | None = None) -> list[str]:
-    """The sources near a file that include it: of its folder and of those above it, up to `top` or four folders up."""
+    """The sources near a file that include it: of its folder and of those above it, up to `top` or four folders up.
+    Where the file has a project with an include root, they are those of the whole project."""
     path = os.path.abspath(path)
     closures: dict[str, set[str]] = {}
     size = 0
@@ -503,6 +504,9 @@ def sources_that_include(path: str, read: Callable[[str], bytes] = source.read, 
 def _candidates(path: str, top: str | None) -> Iterator[str]:
     """The sources that may include a file."""
     folder = os.path.dirname(path)
+    if project := includes.project_of(folder):
+        yield from (one for one in includes.sources_of(project) if one != path)
+        return
     for _ in range(5):
         for name in sorted(os.listdir(folder)) if os.path.isdir(folder) else []:
             candidate = os.path.join(folder, name)

@@ -7,7 +7,7 @@ from collections.abc import Callable
 from dataclasses import dataclass
 from typing import NamedTuple
 
-from uxntools import files, program, source
+from uxntools import files, includes, program, source
 from uxntools.analysis import Analysis, Kind, shape
 from uxntools.cli import Failure, shown
 
@@ -94,11 +94,12 @@ def is_path(path: str) -> bool:
 def _copy(path: str, name: str, folder: str, read: Callable[[str], bytes]) -> None:
     """Copies a source, and what it includes as far as it is there. One that is too long has a copy that is too long
     too, so that `uxn` says so."""
-    start = len(os.path.join(os.path.dirname(path), ""))
     for here, data in source.closure(path, read):
-        there = name if here == path else here[start:]
+        there = name if here == path else includes.name_of(path, here)
         if not is_path(there):
             continue
+        if here != path and there == name:
+            raise Failure(f"{path} and {here}, which it includes, need different names", 131)
         if isinstance(data, bytes):
             files.put(files.make_inner(folder, there), data)
         elif files.is_long(data):
@@ -121,7 +122,7 @@ def assemble(path: str, read: Callable[[str], bytes] = source.read) -> Assembled
     if done.status != 131 or not found:
         raise Failure(f"{path}: uxn asm ended with {done.status}: {done.line}", done.status)
     inner = os.fsdecode(found["path"]) if found["path"] else None
-    where = os.path.join(os.path.dirname(path), inner) if inner else path
+    where = os.path.join(includes.folder_of(path), inner) if inner else path
     return Assembled(
         Fault(where, int(found["line"]), int(found["column"]), found["kind"].decode(), found["word"].rstrip(b"\n"))
     )

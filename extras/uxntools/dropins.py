@@ -11,7 +11,7 @@ import sys
 import time
 from collections.abc import Iterator
 
-from uxntools import attached, files, program, source, symbols
+from uxntools import attached, files, includes, program, source, symbols
 from uxntools.cli import Failure, shown
 
 REFUSAL = re.compile(r"source (?:(?P<path>.*) )?(?P<place>\d+:\d+): (?P<kind>[A-Z]\w+): (?P<word>.*)", re.DOTALL)
@@ -32,17 +32,24 @@ class Mirror:
     def __init__(self, folder: str, path: str) -> None:
         self.folder = folder
         self.path = path
+        project = includes.project_of(os.path.dirname(path))
+        self.begin = os.path.relpath(project.root) if project else ""
         self.names: dict[bytes, bytes] = {}
         self.order: list[bytes] = []
         self.macros = self.size = 0
         copies = [(b"", self._copy(path))]
         for name in self._names_to_come():
-            if files.is_file(os.fsdecode(name)):
-                copies.append((stand_in(name), self._copy(os.fsdecode(name))))
+            if files.is_file(self.file_of(name)):
+                copies.append((stand_in(name), self._copy(self.file_of(name))))
         for name, data in copies[1:]:
             self._write(name, data)
         self.main = self.unused("main.tal")
         self._write(self.main.encode(), copies[0][1])
+
+    def file_of(self, name: bytes) -> str:
+        """The file that an include word names: its path begins at the current folder, or at the include root."""
+        path = os.path.join(self.begin, os.fsdecode(name))
+        return path.removeprefix("./") if self.begin == "." else path
 
     def _names_to_come(self) -> Iterator[bytes]:
         """The names of included files, each once; more come while they are read."""
@@ -88,7 +95,7 @@ class Mirror:
         if not found:
             return refusal
         word = f"~{self.name_of(found['word'][1:])}" if found["word"].startswith("~") else found["word"]
-        path = self.name_of(found["path"]) if found["path"] else self.path
+        path = self.file_of(os.fsencode(self.name_of(found["path"]))) if found["path"] else self.path
         return f"{path}:{found['place']}: {found['kind']}: {word}"
 
 
@@ -96,7 +103,7 @@ def assemble(path: str, rom: str) -> int:
     """Writes the ROM of a source and its symbol file, prints what they hold, and answers the status of `uxn`."""
     with attached.scratch_folder("uxnasm") as folder:
         mirror = Mirror(folder, path)
-        for name in [path, *map(os.fsdecode, mirror.names.values())]:
+        for name in [path, *map(mirror.file_of, mirror.names.values())]:
             if any(
                 os.path.exists(made) and os.path.exists(name) and os.path.samefile(made, name)
                 for made in (rom, f"{rom}.sym")

@@ -101,7 +101,7 @@ def pictures_of(workspace: Workspace, data: bytes) -> Iterator[Iterator[Picture]
             started.kill()
             started.wait()
         errors.seek(0)
-        done = program.Done(status, b"", errors.read())
+        done = workspace.told(program.Done(status, b"", errors.read()))
         if done.status == REFUSED_SCRIPT:
             # The lines of the user's own script have other numbers.
             workspace.play(workspace.script())

@@ -33,7 +33,7 @@ class Row:
 
 
 def has_includes(path: str) -> bool:
-    return any(source.included(path, word) for word in source.include_words(source.read(path)))
+    return any(source.included_from("", word) for word in source.include_words(source.read(path)))
 
 
 def read(listing: bytes, path: str, folder: str = "") -> list[Row]:
@@ -55,8 +55,10 @@ def read(listing: bytes, path: str, folder: str = "") -> list[Row]:
 
 
 def _flat_words(path: str, folder: str) -> Iterator[Word]:
-    """The words of a source, with the paths of their files as they are from the folder."""
-    for word in source.flat_words(os.path.join(folder, path)):
+    """The words of a source, with the paths of their files as they are from the folder. They are those that `uxn`
+    read, so the includes begin at the folder of the source."""
+    whole = os.path.join(folder, path)
+    for word in source.flat_words(whole, os.path.dirname(whole)):
         yield word._replace(path=os.path.relpath(word.path, folder)) if folder else word
 
 

@@ -9,7 +9,7 @@ import os
 from dataclasses import dataclass
 from typing import TYPE_CHECKING
 
-from uxntools import files, log, program, report, script
+from uxntools import files, log, program, report, script, source
 from uxntools.cli import Failure, line_of
 from uxntools.script import Expect
 
@@ -47,6 +47,9 @@ class Finder:
         self.expects = script.expects(data)
         self.scratch = scratch
         self.counts: dict[int, tuple[int, int]] = {}
+        self.name, self.names = run.words[0], {}
+        if "--rom" not in run.words:
+            self.name, self.names = source.linked(self.name, self._path("sources"), run.folder)
 
     def _path(self, name: str) -> str:
         return f"{self.scratch}/{name}"
@@ -68,7 +71,8 @@ class Finder:
             if self.run.root and os.path.lexists(os.path.join(self.run.folder, self.run.root)):
                 files.copy_root(os.path.join(self.run.folder, self.run.root), root, self.run.folder)
             options += ["--root", self._path("root")]
-        program.need(command, *self.run.words, *options, folder=self.run.folder)
+        done = program.call(command, self.name, *self.run.words[1:], *options, folder=self.run.folder)
+        program.accepted(program.told(done, self.names))
 
     def check(self) -> None:
         """Runs the whole script once: one that is refused behind its last expect is refused too."""

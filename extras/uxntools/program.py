@@ -8,7 +8,7 @@ import shutil
 import signal
 import subprocess
 import threading
-from collections.abc import Iterator, Sequence
+from collections.abc import Iterator, Mapping, Sequence
 from contextlib import contextmanager, suppress
 from dataclasses import dataclass
 from typing import IO
@@ -65,6 +65,16 @@ class Done:
             if found
             else None
         )
+
+
+def told(done: Done, names: Mapping[str, str]) -> Done:
+    """What a call gave, with the path of the file where the line of a refused source has the name of a copy."""
+    fault = done.fault
+    path = None if fault is None or fault.path is None else names.get(fault.path, fault.path)
+    if fault is None or path is None or path == fault.path:
+        return done
+    line = f"source {path} {fault.line}:{fault.column}: {fault.kind}: {fault.word}\n"
+    return Done(done.status, done.out, os.fsencode(line))
 
 
 def past_wrapper(path: str) -> str:

@@ -6,7 +6,8 @@ import re
 from collections.abc import Callable, Iterator
 from typing import NamedTuple
 
-from uxntools import files
+from uxntools import files, includes
+from uxntools.cli import Failure
 
 # How many files and bytes a source is read with; `uxn` takes 257, and 4,194,304.
 MOST_FILES, MOST_BYTES = 600, 8_388_608
@@ -65,10 +66,16 @@ def words(data: bytes, path: str = "") -> Iterator[Word]:
 
 
 def included(source: str, word: bytes) -> str | None:
-    """The path that an include word names. It begins at the folder of the source, in whatever file it stands."""
+    """The path that an include word names. It begins at the folder of the source or at the include root of its
+    project, in whatever file the word is."""
+    return included_from(includes.folder_of(source), word)
+
+
+def included_from(folder: str, word: bytes) -> str | None:
+    """The path that an include word names, where the includes begin at this folder."""
     if not word.startswith(b"~") or not 2 <= len(word) <= LONGEST_WORD:
         return None
-    return os.path.join(os.path.dirname(source), os.fsdecode(word[1:]))
+    return os.path.join(folder, os.fsdecode(word[1:]))
 
 
 def read(path: str) -> bytes:
@@ -76,13 +83,14 @@ def read(path: str) -> bytes:
     return files.read(path, files.SOURCE)
 
 
-def flat_words(source: str, path: str | None = None, depth: int = 15) -> Iterator[Word]:
-    """The words of a source, with the words of included files in place of the words that include them."""
-    path = path or source
+def flat_words(path: str, folder: str | None = None, depth: int = 15) -> Iterator[Word]:
+    """The words of a source, with the words of included files in place of the words that include them. The includes
+    begin at the given folder."""
+    folder = includes.folder_of(path) if folder is None else folder
     for word in words(read(path), path):
-        inner = included(source, word.text)
+        inner = included_from(folder, word.text)
         if inner and depth:
-            yield from flat_words(source, inner, depth - 1)
+            yield from flat_words(inner, folder, depth - 1)
         else:
             yield word
 
@@ -103,7 +111,7 @@ def include_words(data: bytes) -> Iterator[bytes]:
 def closure(path: str, read: Callable[[str], bytes] = read) -> Iterator[tuple[str, bytes | OSError]]:
     """A source and the files that it includes, each once, in order of reading, with its bytes or why it cannot be
     read. Past what `uxn` takes it ends early."""
-    found, known, size = [path], {path}, 0
+    found, known, size, folder = [path], {path}, 0, includes.folder_of(path)
     for name in found:
         try:
             data = read(name)
@@ -113,12 +121,31 @@ def closure(path: str, read: Callable[[str], bytes] = read) -> Iterator[tuple[st
         yield name, data
         size += len(data)
         for word in include_words(data) if size <= MOST_BYTES else ():
-            inner = included(path, word)
+            inner = included_from(folder, word)
             if inner and inner not in known and len(found) < MOST_FILES:
                 found.append(inner)
                 known.add(inner)
         if size > MOST_BYTES:
             return
+
+
+def linked(name: str, scratch: str, folder: str = "") -> tuple[str, dict[str, str]]:
+    """The name of a source for a call of `uxn` in a folder, and the paths of the files that such a call may name. It
+    is its own, unless its includes begin at another folder: then that of a link in a scratch folder of the tool's
+    own, which has links to what the source includes too. All paths begin at the folder of the call."""
+    main = os.path.join(folder, name)
+    if not includes.is_moved(main):
+        return name, {}
+    made: dict[str, str] = {}
+    for path, _ in closure(main):
+        inner = os.path.basename(name) if path == main else includes.name_of(main, path)
+        if not files.is_file(path) or {"", ".", ".."} & set(inner.split("/")):
+            continue
+        shown = os.path.relpath(path, folder or ".")
+        if made.setdefault(f"{scratch}/{inner}", shown) != shown:
+            raise Failure(f"{name} and {shown}, which it includes, need different names", 131)
+        files.link(os.path.abspath(path), files.make_inner(os.path.join(folder, scratch), inner))
+    return f"{scratch}/{os.path.basename(name)}" if made else name, made
 
 
 def files_of(source: str) -> tuple[list[str], list[OSError]]:

@@ -7,10 +7,10 @@ import os
 from collections.abc import Iterator, Mapping, Sequence
 from concurrent.futures import ThreadPoolExecutor
 from contextlib import ExitStack, contextmanager
-from dataclasses import dataclass, field
+from dataclasses import dataclass, field, replace
 from types import MappingProxyType
 
-from uxntools import files, listing, program, source, symbols
+from uxntools import files, includes, listing, program, source, symbols
 from uxntools.cli import Failure
 from uxntools.files import Kind
 from uxntools.listing import Row
@@ -40,15 +40,26 @@ class Target:
         valued = {"--script": self.script, "--root": self.root, "--budget": self.budget}
         return ["--rom"] * self.rom + [f"{name}={value}" for name, value in valued.items() if value is not None]
 
-    def inputs(self) -> dict[str, Kind]:
-        """The files that a run reads, but for those beneath its root, each with its kind."""
-        found = {self.source: files.ROM} if self.rom else dict.fromkeys(self._sources(), files.SOURCE)
+    def inputs(self) -> list[tuple[str, str, Kind]]:
+        """The files that a run reads, but for those beneath its root: the name of each in the call, its path, and its
+        kind."""
         named = ((self.script, files.SCRIPT), (self.symbols, files.SYMBOLS))
-        return {**{path: kind for path, kind in named if path is not None}, **found}
+        found = [(path, path, kind) for path, kind in named if path is not None]
+        if self.rom:
+            return [*found, (self.source, self.source, files.ROM)]
+        return found + [(name, path, files.SOURCE) for name, path in self.sources().items()]
 
-    def _sources(self) -> list[str]:
-        found = source.files_of(os.path.join(self.folder, self.source))[0]
-        return [os.path.relpath(path, self.folder) for path in found] if self.folder else found
+    def sources(self) -> dict[str, str]:
+        """The source and the files that it includes, by their names in the call: those of the include words, from
+        the folder of the source on."""
+        main, own = os.path.join(self.folder, self.source), os.path.dirname(self.source)
+        found = {self.source: self.source}
+        for path in source.files_of(main)[0][1:]:
+            name = os.path.join(own, includes.name_of(main, path))
+            shown = os.path.relpath(path, self.folder) if self.folder else path
+            if found.setdefault(name, shown) != shown:
+                raise Failure(f"{found[name]} and {shown}, which it includes, need different names", 131)
+        return found
 
 
 def add_arguments(parser: argparse.ArgumentParser) -> None:
@@ -105,6 +116,7 @@ class Workspace:
         self.shortened: bytes | None = None
         self.cut: int | None = None
         self._calls = Calls()
+        self._sources = {} if target.rom else target.sources()
         self._kept = ExitStack()
         self._scratch = self._kept.enter_context(files.scratch_folder("uxn-tool-"))
         self._files = os.path.join(self._scratch, "files")
@@ -116,12 +128,13 @@ class Workspace:
             raise
 
     def _fill(self) -> None:
-        for path, kind in self.target.inputs().items():
-            if (there := self._place(path)) and files.is_file(os.path.join(self.target.folder, path)):
-                files.copy_file(os.path.join(self.target.folder, path), there, kind)
+        for name, path, kind in self.target.inputs():
+            here = os.path.join(self.target.folder, path)
+            if (there := self._place(name, here)) and files.is_file(here):
+                files.copy_file(here, there, kind)
         root = self.target.root
-        if root is not None and (there := self._place(root)):
-            here = os.path.join(self.target.folder, root)
+        here = os.path.join(self.target.folder, root or "")
+        if root is not None and (there := self._place(root, here)):
             if files.is_file(here):
                 files.copy_file(here, there, files.OUTPUT)
             elif os.path.lexists(here):
@@ -138,14 +151,19 @@ class Workspace:
     def __exit__(self, *_: object) -> None:
         self.close()
 
-    def _place(self, path: str) -> str | None:
-        """Where the copy of a file is made, if `uxn` takes its path and it is not there yet."""
-        if not is_plain(path) or os.path.lexists(self.path(path)) or not os.path.exists(self._here(path)):
+    def _place(self, name: str, here: str) -> str | None:
+        """Where the copy of a file is made, if `uxn` takes its name and it is not there yet."""
+        if not is_plain(name) or os.path.lexists(self.path(name)) or not os.path.exists(here):
             return None
-        return files.make_inner(self._files, path)
+        return files.make_inner(self._files, name)
 
-    def _here(self, path: str) -> str:
-        return os.path.join(self.target.folder, path)
+    def path_of(self, name: str) -> str:
+        """The path of a file that a call names, from the folder of the target."""
+        return self._sources.get(name, name)
+
+    def told(self, done: Done) -> Done:
+        """What a call gave, with the paths of the files in the place of the names of their copies."""
+        return program.told(done, self._sources)
 
     def path(self, name: str) -> str:
         """Where the copy of an input lies."""
@@ -243,7 +261,7 @@ class Workspace:
         with self.folder() as folder:
             for name, data in given.items():
                 files.put(os.path.join(folder, OWN + name), data)
-            done = program.call_for_files(*words, folder=folder, calls=self._calls)
+            done = self.told(program.call_for_files(*words, folder=folder, calls=self._calls))
             return done, {name: _data(os.path.join(folder, OWN + name)) for name in outputs}
 
     def prepared(self, folder: str, script: bytes) -> list[str]:
@@ -254,7 +272,7 @@ class Workspace:
     def output(self) -> Done:
         """What the whole run puts out."""
         with self.folder() as folder:
-            return program.call("play", self.target.source, *self._options(None), folder=folder)
+            return self.told(program.call("play", self.target.source, *self._options(None), folder=folder))
 
     def rom(self) -> bytes:
         """The ROM, as it is loaded."""
@@ -284,9 +302,11 @@ class Workspace:
         words = ["asm", path, f"--out={OWN}rom", f"--listing={OWN}listing", f"--symbols={OWN}symbols"]
         done, made = self.call(words, {}, ["listing", "symbols"])
         program.accepted(done)
-        rows = listing.read(made["listing"], path, self._files)
-        paths = dict.fromkeys([path, *(row.path for row in rows)])
-        return Program(rows, self._labels(made["symbols"]), {name: lines_of(_data(self.path(name))) for name in paths})
+        found = listing.read(made["listing"], path, self._files)
+        rows = [replace(row, path=self.path_of(row.path)) for row in found]
+        names = dict.fromkeys([path, *(row.path for row in found)])
+        texts = {self.path_of(name): lines_of(_data(self.path(name))) for name in names}
+        return Program(rows, self._labels(made["symbols"]), texts)
 
     def _rom_program(self) -> Program:
         """Of a ROM the lines are those of its disassembly, where it has one: `uxn dis` takes 65,280 bytes."""

@@ -5,7 +5,7 @@ import os
 from collections.abc import Iterator
 from itertools import islice
 
-from uxntools import opcodes, ports
+from uxntools import includes, opcodes, ports
 from uxntools.analysis import RUNES
 from uxntools.lsp import hover
 from uxntools.lsp.documents import position
@@ -36,7 +36,6 @@ def complete(spot: Spot) -> Json:
                     "label": text,
                     "kind": kind,
                     "detail": detail,
-                    "filterText": text,
                     "textEdit": {"range": where, "newText": text},
                 }
             )
@@ -111,7 +110,7 @@ def _sublabels(spot: Spot, before: str) -> Iterator[tuple[str, int, str]]:
 
 def _files(spot: Spot) -> Iterator[tuple[str, int, str]]:
     """The files below the source's folder that it could include."""
-    top = os.path.dirname(spot.found.path)
+    top = includes.folder_of(spot.found.path)
     for folder, folders, names in islice(os.walk(top), MOST_FOLDERS):
         folders[:] = (
             sorted(name for name in folders if not name.startswith("."))[:64]

@@ -3,7 +3,7 @@ from __future__ import annotations
 
 import os
 
-from uxntools import opcodes, ports
+from uxntools import includes, opcodes, ports
 from uxntools.analysis import Analysis, Entity, Kind, Shape, shape
 from uxntools.lsp.documents import range_of
 from uxntools.lsp.protocol import Json
@@ -42,7 +42,7 @@ def about(spot: Spot, word: Word) -> str:
     if form.kind is Kind.TEXT:
         return f"{form.size} bytes of text: `{form.name.hex(' ')}`" if form.size else "a text without bytes"
     if form.kind is Kind.INCLUDE:
-        path = os.path.join(os.path.dirname(spot.found.path), os.fsdecode(form.name))
+        path = os.path.join(includes.folder_of(spot.found.path), os.fsdecode(form.name))
         return f"the words of `{path}`" + ("" if path in spot.found.rows else ", which cannot be read")
     return ""
 

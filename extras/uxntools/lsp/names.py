@@ -3,6 +3,7 @@ from __future__ import annotations
 
 import os
 
+from uxntools import includes
 from uxntools.analysis import Analysis, Entity, Kind, is_name, shape
 from uxntools.lsp.documents import range_of, uri_of
 from uxntools.lsp.protocol import INVALID_PARAMS, REQUEST_FAILED, Json, Refusal
@@ -27,7 +28,7 @@ def definition(spot: Spot) -> Json | None:
         return None
     form = shape(word.text)
     if form.kind is Kind.INCLUDE:
-        path = os.path.join(os.path.dirname(spot.found.path), os.fsdecode(form.name))
+        path = os.path.join(includes.folder_of(spot.found.path), os.fsdecode(form.name))
         start = {"line": 0, "character": 0}
         return {"uri": uri_of(path), "range": {"start": start, "end": start}} if path in spot.found.rows else None
     if form.kind in (Kind.OPENER, Kind.CLOSER):

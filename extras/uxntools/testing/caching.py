@@ -15,7 +15,7 @@ from collections.abc import Sequence
 from dataclasses import dataclass
 from typing import Any
 
-from uxntools import files, source
+from uxntools import files, includes, source
 from uxntools.testing.discovery import WANTED, Test
 from uxntools.testing.running import KEPT, Result, kept_folder
 
@@ -108,7 +108,7 @@ class Digests:
     def of_sources(self, path: str) -> list[tuple[str, bytes]]:
         """A source and all that it includes: each path from the source's folder with its digest, one that is not
         there with none."""
-        top = os.path.dirname(path)
+        top = includes.folder_of(path)
         found: dict[str, bytes] = {}
         waiting, size = [path], 0
         while waiting and len(found) < source.MOST_FILES and size <= source.MOST_BYTES:
@@ -132,7 +132,7 @@ class Digests:
 
 def _included(path: str, data: bytes) -> list[str]:
     """The paths of the include words of a source, as they stand there."""
-    return [os.fsdecode(word[1:]) for word in source.include_words(data) if source.included(path, word)]
+    return [os.fsdecode(word[1:]) for word in source.include_words(data) if source.included_from("", word)]
 
 
 class Keys:

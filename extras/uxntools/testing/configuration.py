@@ -5,10 +5,11 @@ import os
 import tomllib
 from dataclasses import dataclass, field, fields, replace
 
-from uxntools import files
+from uxntools import files, includes
+from uxntools.includes import is_beneath
 from uxntools.cli import Failure
 
-NAME = "uxn-test.toml"
+NAME = includes.SETTINGS
 OUTPUTS = ("out", "err")
 
 
@@ -79,11 +80,6 @@ def _fault(name: str, value: object) -> str | None:
     return None
 
 
-def is_beneath(path: str) -> bool:
-    """Whether a path leads to what lies beneath the folder of the settings, by its names alone."""
-    return not path.startswith("/") and ".." not in path.split("/") and all(sign.isprintable() for sign in path)
-
-
 def _tables(data: object, kind: str, path: str) -> dict[str, dict[str, object]]:
     if not isinstance(data, dict):
         raise Failure(f"{path}: {kind}: write [{kind}.NAME]", 2)
@@ -101,5 +97,7 @@ def read(path: str) -> Configuration:
         raise Failure(f"{path}: {error}", 2) from None
     except RecursionError:
         raise Failure(f"{path}: it is nested too deeply", 2) from None
+    if fault := includes.fault(data.pop(includes.KEY, ".")):
+        raise Failure(f"{path}: {includes.KEY}: {fault}", 2)
     folders, tests = _tables(data.pop("folder", {}), "folder", path), _tables(data.pop("test", {}), "test", path)
     return Configuration(_checked(data, path), folders, tests)

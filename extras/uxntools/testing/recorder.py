@@ -8,7 +8,7 @@ import sys
 from collections.abc import Iterator
 from contextlib import contextmanager
 
-from uxntools import cli, files, program, script
+from uxntools import cli, files, program, script, source
 from uxntools.cli import Failure
 from uxntools.recording import Recorder, Session, Wrong
 from uxntools.testing import comparing, configuration, updating, warning
@@ -175,12 +175,10 @@ def write_test(given: argparse.Namespace, recorder: Recorder) -> int:
 def main() -> int:
     given = arguments()
     check(given)
-    words = [
-        given.program,
-        *(["--rom"] if given.program.endswith(".rom") else []),
-        *(["--budget", str(given.budget)] if given.budget else []),
-    ]
+    options = ["--rom"] if given.program.endswith(".rom") else []
+    options += ["--budget", str(given.budget)] if given.budget else []
     with scratch_folder() as scratch:
+        words = [given.program if "--rom" in options else source.linked(given.program, f"{scratch}/sources")[0], *options]
         recorder = Recorder(words, scratch, head_lines(given), given.root)
         session = Session(recorder, show, say, given.to + ".png")
         try:

@@ -9,7 +9,7 @@ from collections.abc import Iterator, Mapping
 from contextlib import contextmanager
 from dataclasses import dataclass, field
 
-from uxntools import files, program, report
+from uxntools import files, program, report, source
 from uxntools.cli import Failure, shown
 from uxntools.testing.discovery import Test
 
@@ -31,6 +31,9 @@ class Call:
     test: Test
     scratch: str
     outputs: frozenset[str]
+    # The names of links in the scratch folder, with the paths that a refusal shows.
+    names: dict[str, str] = field(default_factory=dict)
+    sources: dict[str, str] = field(default_factory=dict)
 
     def path(self, part: str) -> str:
         """A file of the scratch folder, relative to the folder of the call."""
@@ -41,7 +44,7 @@ class Call:
         test, command = self.test, command or self.test.kind
         if command == "line":
             return ["line", self._setup()]
-        words = [command, test.program]
+        words = [command, test.program if test.is_rom else self._linked(test.program, "sources")]
         if test.is_rom:
             words.append("--rom")
         if test.script:
@@ -66,13 +69,34 @@ class Call:
     def _setup(self) -> str:
         """The setup of the test: its own, or that of the program with the test's script in place of the one that it
         names."""
-        if self.test.has("setup") or not self.test.script:
-            return self.test.program
         data = files.read(os.path.join(self.test.folder, self.test.program), files.SETUP)
-        lines = [line for line in data.split(b"\n") if line.split()[:1] != [b"script"]]
-        made = b"\n".join([*lines, b"script " + os.fsencode(self.test.script), b""])
+        lines = self._machines(data.split(b"\n"))
+        if not self.test.has("setup") and self.test.script:
+            lines = [line for line in lines if line.split()[:1] != [b"script"]]
+            lines += [b"script " + os.fsencode(self.test.script), b""]
+        made = b"\n".join(lines)
+        if made == data:
+            return self.test.program
         files.put(os.path.join(self.test.folder, self.path("setup")), made)
         return self.path("setup")
+
+    def _machines(self, lines: list[bytes]) -> list[bytes]:
+        """The lines of a setup with the names of its sources as `uxn` takes them."""
+        found = []
+        for number, line in enumerate(lines):
+            words = line.split()
+            if len(words) == 2 and words[0] == b"machine":
+                name = self._linked(os.fsdecode(words[1]), f"machine-{number}")
+                line = line if name == os.fsdecode(words[1]) else b"machine " + os.fsencode(name)
+            found.append(line)
+        return found
+
+    def _linked(self, name: str, inner: str) -> str:
+        """The name of a source in the call."""
+        if name not in self.sources:
+            self.sources[name], names = source.linked(name, self.path(inner), self.test.folder)
+            self.names.update(names)
+        return self.sources[name]
 
 
 @dataclass(frozen=True)
@@ -184,6 +208,7 @@ def run(
             )
         wanted = ["out", "err", *sorted(call.outputs)] + (["log"] if test.kind == "debug" else [])
         parts = {part: _read(f"{folder}/{part}") for part in wanted}
+        parts["err"] = program.told(program.Done(status, b"", parts["err"]), call.names).err
         return Result(status, parts, files.read_all(f"{folder}/root") if test.has_root and test.kind != "line" else None)
 
 
