@@ -38,6 +38,7 @@ PARTS = (
     Part("cases-wasm", ("tools/cases-wasm",), is_wide=True, is_in_memory=True),
     Part("extras", ("extras/tests/run",)),
     Part("tools", ("tools/tests/run",)),
+    Part("page", ("web/tests/run",)),
     Part("memory", ("bench/memory",), is_in_memory=True),
     Part("conditions", (".ci/conditions",), is_in_memory=True),
     Part("lines", (".ci/lines",), is_in_memory=True),
