@@ -45,6 +45,7 @@ PARTS = (
     Part("faults", ("cases/faults",)),
     Part("extras", ("extras/tests/run",)),
     Part("tools", ("tools/tests/run",)),
+    Part("page", ("web/tests/run",)),
     Part("memory", ("bench/memory",), is_in_memory=True, row=" MB of ", option="--only"),
     Part("conditions", (".ci/conditions",), is_in_memory=True),
     Part("lines", (".ci/lines",), is_in_memory=True),
