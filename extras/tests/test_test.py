@@ -237,7 +237,7 @@ class Failing(Suite):
                 file.write(data)
         for _ in range(2):
             done = self.call("uxn-test")
-            self.assertIn(b"FAILED tests/\xff\n", done.stdout, done.stderr)
+            self.assertIn(b"FAILED tests/\\xff\n", done.stdout, done.stderr)
             self.assertEqual((done.returncode, done.stderr), (1, b""))
             time.sleep(0.1)
 

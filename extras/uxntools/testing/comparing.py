@@ -15,7 +15,7 @@ REFUSAL, EARLY, CUT, MISS = "refusal", "early", "cut", "miss"
 ALLOWED = (REFUSAL, EARLY, CUT, MISS)
 # An expect after the end of the run: nothing records that.
 UNREACHED = "unreached"
-NO_CALL = "could not be made, or the program ended so:"
+NO_CALL = "ended like one that a shell cannot make,"
 # 200 is of a launcher that has no program to run.
 REFUSED_STATUSES = {*program.REFUSED, 200}
 
@@ -86,8 +86,7 @@ def _ended(test: Test, result: Result) -> Fault | None:
         if result.status < 0
         else NO_CALL
     )
-    said = "status" if how == NO_CALL else "with status"
-    line = f"the call {how} {said} {result.status}" + (f": {result.line}" if result.line else "")
+    line = f"the call {how} with status {result.status}" + (f": {result.line}" if result.line else "")
     if result.status == -signal.SIGXFSZ:
         line = f"the call was ended: it has written a file of {program.MOST_WRITTEN:,} bytes"
     return Fault("status", line, kind=REFUSAL if is_refused else EARLY)
