@@ -11,7 +11,7 @@ import sys
 import time
 from collections.abc import Iterator
 
-from uxntools import attached, files, includes, program, source, symbols
+from uxntools import attached, files, includes, program, script, source, symbols
 from uxntools.cli import Failure, shown
 
 REFUSAL = re.compile(r"source (?:(?P<path>.*) )?(?P<place>\d+:\d+): (?P<kind>[A-Z]\w+): (?P<word>.*)", re.DOTALL)
