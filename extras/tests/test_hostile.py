@@ -67,6 +67,9 @@ class Roots(Hostile):
         ("uxn-trace", "game.tal", "--root", "root"),
         ("uxn-watch", "game.tal", "name", "--root", "root"),
         ("uxn-cover", "game.tal", "--root", "root"),
+        ("uxn-film", "game.tal", "--root", "root", "--to", "made.png"),
+        ("uxn-fuzz", "game.tal", "--root", "root", "--runs", "2"),
+        ("uxn-profile", "game.tal", "--root", "root"),
         ("uxn-misses", "game.tal", "--script", "s", "--root", "root"),
         ("uxn-record", "game.tal", "--to", "tests/new", "--root", "root"),
     )
