@@ -142,7 +142,7 @@ line needs. With `{events}`, `{frames}`, `{samples}` and `--profile` all lines h
 
 - An instruction that is wrong for single values that are no edges. Random programs find these.
 - Stores to places in memory that no sum and no program reads.
-- Times of runs, windows, real keyboards, real sound, a clock that runs, and more than some 1,200 frames.
+- Times, windows, real keyboards, real sound, a clock that runs, and more than some 1,200 frames.
 - File names beyond 253 bytes or of other bytes than printable ASCII, and files beyond 64 kilobytes.
 - The texts of messages, except a word and the form that the README names.
 - Sources of more than four megabytes, and what a limit is where it is greater than `uxn`'s.
