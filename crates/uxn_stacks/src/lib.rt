@@ -83,8 +83,9 @@ impl Ring {
     }
 
     /// Pushes a byte where the pointer is at a place, and gives the pointer: what `push1` does with the pointer that is kept.
-    /// A loop that keeps the pointer in a variable of its own waits for no store of it.
-    #[inline(always)]
+    /// A loop that keeps the pointer in a variable of its own waits for no store of it. The compiler inlines so short a function
+    /// by itself. A hint on it would count towards the size of all that it is inlined in, and an instruction's row would then be
+    /// too large for its own hint.
     pub fn push1_at(&mut self, pointer: u8, value: u8) -> u8
         ensures { pointed self.new result ≡ pushed_byte (pointed self.old pointer) value }
     {
@@ -93,7 +94,6 @@ impl Ring {
     }
 
     /// Pushes a short where the pointer is at a place, and gives the pointer.
-    #[inline(always)]
     pub fn push2_at(&mut self, pointer: u8, value: u16) -> u8
         ensures { pointed self.new result ≡ pushed_short (pointed self.old pointer) value }
     {
@@ -102,7 +102,6 @@ impl Ring {
     }
 
     /// The byte with `depth` bytes between it and a pointer.
-    #[inline(always)]
     pub fn peek1_at(&self, pointer: u8, depth: u8) -> u8
         ensures { result ≡ byte_below (pointed self.now pointer) depth }
     {
@@ -110,7 +109,6 @@ impl Ring {
     }
 
     /// The short with `depth` bytes between it and a pointer.
-    #[inline(always)]
     pub fn peek2_at(&self, pointer: u8, depth: u8) -> u16
         ensures { result ≡ short_below (pointed self.now pointer) depth }
     {
