@@ -2,3 +2,4 @@ pub mod Cutting
 pub mod ReadingLemmas
 pub mod WritingLemmas
 pub mod NearestLemmas
+pub mod TableLemmas

@@ -1,7 +1,7 @@
 -- What a debugger holds in the middle of a run, moment by moment. That it comes to the log of the whole run is a law.
 use Rattle.std.specs.Prelude.{ℕ, zero, suc, ◌+◌, ◌-◌, ◌%◌, Bool, true, false, ◌==◌, nat_le}
 use Rattle.std.specs.Prelude.{if◌then◌else◌, List, [], ◌∷◌, ◌++◌, length, take}
-use Rattle.std.specs.Prelude.{Option, Some, None, ◌≡◌, drop, fold, unwrap_or, slice_get}
+use Rattle.std.specs.Prelude.{Option, Some, None, is_some, ◌≡◌, drop, fold, unwrap_or, slice_get}
 use Rattle.std.specs.List.{list_any}
 use Rattle.uxn_opcodes.specs.declared.Core.{Core}
 use Rattle.tal_words.specs.declared.name.Label.{Label}
@@ -52,6 +52,13 @@ new_watching commands labels = record {
   goes_back = list_any is_back commands;
   undo = [];
 }
+
+-- what keeps the moments then, and what it holds: without it none
+abbrev pub new_undo : List DebugCommand → Option (List Kept)
+new_undo commands = if list_any is_back commands then Some [] else None
+
+abbrev pub held_in : Option (List Kept) → List Kept
+held_in undo = unwrap_or undo []
 
 -- what is observed so many moments before the one that is shown, by what is kept of them
 abbrev pub observed_view : MomentView → List Kept → ℕ → Option Kept → MomentView
@@ -176,12 +183,12 @@ ended held end = if is_nothing held.goal then held else arrived (at_end end) hel
 abbrev pub held_by : Debugger → Watching
 held_by debugger = record {
   commands = drop debugger.next debugger.commands.items;
-  labels = debugger.labels.now;
+  labels = debugger.labels;
   goal = debugger.goal;
   breaks = addresses_in debugger.breaks.bits;
   log = debugger.log.items;
-  goes_back = debugger.goes_back;
-  undo = debugger.undo;
+  goes_back = is_some debugger.undo;
+  undo = held_in debugger.undo;
 }
 
 abbrev pub shown_of : Core → Page → Moment → Shown

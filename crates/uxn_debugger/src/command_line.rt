@@ -7,7 +7,7 @@ ghost use Rattle.uxn_debugger.specs.declared.command_line.Keyword.TheVariants.{M
 ghost use Rattle.uxn_debugger.specs.CommandLines.{address_in, address_of_values, command_line_of, command_of, command_rows, count_of_values};
 
 use crate::command::{CommandKind, DebugCommand};
-use tal_symbols::{Label, address_of};
+use tal_symbols::LabelNames;
 use tal_words::short_number;
 use text_lines::{Counts, Row, begins_with, first_word, keyword_of, number_within};
 use uxn_limits::limits;
@@ -49,7 +49,7 @@ pub(crate) fn rows() -> &'static [Row<Keyword>]
 // The command that a line gives, if it gives one, or what is wrong with it by itself.
 #[tactic(auto, unfolding(crate::specs::CommandLines::command_line_of))]
 pub(crate) fn command_line_of(
-    labels: &[Label],
+    labels: &LabelNames<'_>,
     line: &[u8],
 ) -> Result<Option<DebugCommand>, CommandKind>
     ensures { result ≡ command_line_of labels.now (words_of line.now) }
@@ -63,7 +63,7 @@ pub(crate) fn command_line_of(
 // The command that the values behind a keyword make, as many as it takes.
 #[tactic(auto, unfolding(crate::specs::CommandLines::command_of))]
 fn command_of(
-    labels: &[Label],
+    labels: &LabelNames<'_>,
     keyword: Keyword,
     values: &[u8],
 ) -> Result<DebugCommand, CommandKind>
@@ -86,7 +86,7 @@ fn command_of(
 
 // The bytes of memory that an address and a count give.
 #[tactic(auto, unfolding(crate::specs::CommandLines::command_of))]
-fn memory_of_values(labels: &[Label], values: &[u8]) -> Result<DebugCommand, CommandKind>
+fn memory_of_values(labels: &LabelNames<'_>, values: &[u8]) -> Result<DebugCommand, CommandKind>
     ensures { result ≡ command_of labels.now Mem (words_of values.now) }
 {
     let Some((address, more)) = first_word(values) else {
@@ -112,7 +112,7 @@ fn count_of_values(most: u64, values: &[u8]) -> Result<u32, CommandKind>
 }
 
 // The first value as an address.
-fn address_of_values(labels: &[Label], values: &[u8]) -> Result<u16, CommandKind>
+fn address_of_values(labels: &LabelNames<'_>, values: &[u8]) -> Result<u16, CommandKind>
     ensures { result ≡ address_of_values labels.now (words_of values.now) }
 {
     let Some((word, _)) = first_word(values) else {
@@ -123,7 +123,7 @@ fn address_of_values(labels: &[Label], values: &[u8]) -> Result<u16, CommandKind
 
 // The address that a word represents: four lowercase digits, or `@` and the name of a label.
 #[tactic(auto, unfolding(crate::specs::CommandLines::address_in))]
-fn address_in(labels: &[Label], word: &[u8]) -> Result<u16, CommandKind>
+fn address_in(labels: &LabelNames<'_>, word: &[u8]) -> Result<u16, CommandKind>
     ensures { result ≡ address_in labels.now word.now }
 {
     if let Some(address) = short_number(word) {
@@ -132,7 +132,7 @@ fn address_in(labels: &[Label], word: &[u8]) -> Result<u16, CommandKind>
     if !begins_with(b'@', word) || word.len() == 1 {
         return Err(CommandKind::BadValue);
     }
-    match address_of(labels, &word[1..]) {
+    match labels.address_of(&word[1..]) {
         Some(address) => Ok(address),
         None => Err(CommandKind::NoSuchLabel),
     }

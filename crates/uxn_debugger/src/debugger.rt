@@ -1,6 +1,6 @@
 //! The debugger: a watcher that does commands and keeps a log.
 
-ghost use Rattle.std.specs.Prelude.{◌≡◌, ◌≤◌, ℕ, List, [], length, if◌then◌else◌, IfSome, OnOk};
+ghost use Rattle.std.specs.Prelude.{◌≡◌, ◌≤◌, ◌<◌, ◌-◌, ℕ, List, [], length, slice_get, if◌then◌else◌, IfSome, IfOk, OnOk};
 ghost use Rattle.std.specs.List.{list_any};
 ghost use Rattle.vector_loop.specs.Watch.{Page, IsPage};
 ghost use Rattle.uxn_debugger.specs.Printing.{view};
@@ -18,9 +18,11 @@ ghost use Rattle.uxn_debugger.specs.Watching.{
   is_awaited,
   is_back,
   is_stop,
+  new_undo,
   new_watching,
   next_stop,
   shown_of,
+  was_at_break,
   with_arrival,
   with_kept,
 };
@@ -31,7 +33,7 @@ use crate::place::{Goal, Place};
 use crate::printing::{put_place, put_printed};
 use crate::scene::Scene;
 use std::alloc::{AllocError, Global};
-use tal_symbols::Label;
+use tal_symbols::{Label, LabelTable};
 use uxn_opcodes::{Core, Ports};
 use uxn_undo::{
     Undo, going_back_gives_the_moment, the_moments_of_a_run_are_in_a_row,
@@ -44,12 +46,11 @@ use vector_loop::{Moment, Watcher, the_moments_of_a_run_are_counted};
 pub struct Debugger<'a> {
     commands: Vec<DebugCommand>,
     next: usize,
-    labels: &'a [Label],
+    labels: LabelTable<'a>,
     goal: Goal,
     breaks: Breaks,
     log: Vec<u8>,
-    goes_back: bool,
-    undo: Undo,
+    undo: Option<Undo>,
 }
 
 impl<'a> Debugger<'a> {
@@ -64,15 +65,31 @@ impl<'a> Debugger<'a> {
         requires { undo ≡ [] }
         ensures { held_by result ≡ new_watching commands.items labels.now }
     {
-        let goes_back = has_back(commands.as_slice());
+        let undo = if has_back(commands.as_slice()) {
+            Some(undo)
+        } else {
+            None
+        };
+        Debugger::with_undo(alloc, commands, labels, undo)
+    }
+
+    /// The same, with what keeps moments where some command is `back`, and else with nothing.
+    pub fn with_undo(
+        alloc: Global,
+        commands: Vec<DebugCommand>,
+        labels: &'a [Label],
+        undo: Option<Undo>,
+    ) -> Debugger<'a>
+        requires { undo ≡ new_undo commands.items }
+        ensures { held_by result ≡ new_watching commands.items labels.now }
+    {
         Debugger {
             commands,
             next: 0,
-            labels,
+            labels: LabelTable::new(alloc, labels),
             goal: Goal::FirstMoment,
             breaks: Breaks::new(),
             log: Vec::new(alloc),
-            goes_back,
             undo,
         }
     }
@@ -122,11 +139,11 @@ impl<'a> Debugger<'a> {
         ensures { (page : Page) (moment : Moment) → IsPage (P.rules.reads ports.now core.now) (P.stored ports.now) page
             → held_by self.new ≡ with_kept (shown_of core.now page moment) (held_by self.old) }
     {
-        if !self.goes_back {
+        let Some(undo) = &mut self.undo else {
             return;
-        }
+        };
         has_all_ports(ports.stored_page());
-        self.undo.keep(core, ports);
+        undo.keep(core, ports);
     }
 
     // Prints the place, unless the run begins, and does the next commands.
@@ -137,6 +154,7 @@ impl<'a> Debugger<'a> {
             → held_by self.new ≡ arrived (view core.now page.read place) (held_by self.old)) }
         ensures kept { KeptNone (held_by self.old) (held_by self.new) }
     {
+        self.labels.make()?;
         self.put_arrival(core, place)?;
         self.go_on(core, ports, place)
     }
@@ -155,7 +173,7 @@ impl<'a> Debugger<'a> {
             place,
             undo: &self.undo,
             back: 0,
-            labels: self.labels,
+            labels: &self.labels,
         };
         put_place(&mut self.log, &scene)?;
         Ok(())
@@ -175,7 +193,7 @@ impl<'a> Debugger<'a> {
                 self.goal = goal;
                 return Ok(());
             }
-            let reach = self.undo.held() - back;
+            let reach = self.held() - back;
             back = self.back_after(place, back, command);
             self.breaks.follow(command);
             let scene = Scene {
@@ -183,12 +201,22 @@ impl<'a> Debugger<'a> {
                 place,
                 undo: &self.undo,
                 back,
-                labels: self.labels,
+                labels: &self.labels,
             };
             put_printed(&mut self.log, &scene, ports, reach, command)?;
         }
         self.goal = Goal::Nothing;
         Ok(())
+    }
+
+    // How many moments are kept.
+    fn held(&self) -> u32
+        ensures { result ≡ length (held_by self.now).undo }
+    {
+        match &self.undo {
+            Some(undo) => undo.held(),
+            None => 0,
+        }
     }
 
     // What a command waits for that goes on past the moment that is shown, if it does.
@@ -218,7 +246,7 @@ impl<'a> Debugger<'a> {
         match command {
             DebugCommand::Run => self.next_stop(place, back).unwrap_or(0),
             DebugCommand::Step(count) => back.saturating_sub(count),
-            DebugCommand::Back(count) if count <= self.undo.held() - back => back + count,
+            DebugCommand::Back(count) if count <= self.held() - back => back + count,
             _ => back,
         }
     }
@@ -240,19 +268,42 @@ impl<'a> Debugger<'a> {
         None
     }
 
+    // Whether the moment so far back stood at a break address.
+    fn was_at_break(&self, back: u32) -> bool
+        requires first { 0 < back }
+        requires last { back ≤ length (held_by self.now).undo }
+        ensures { result ≡ was_at_break (held_by self.now).breaks (slice_get (held_by self.now).undo (back - 1)) }
+    {
+        match &self.undo {
+            Some(undo) => self.breaks.contains(undo.address(back)),
+            None => false,
+        }
+    }
+
     // Whether the moment so far back stands at a break address; 0 is the one that is shown.
     fn is_stop(&self, place: Place, back: u32) -> bool
         requires { back ≤ length (held_by self.now).undo }
         ensures { result ≡ is_stop (held_by self.now).breaks (held_by self.now).undo place back }
     {
         if back > 0 {
-            return self.breaks.contains(self.undo.address(back));
+            return self.was_at_break(back);
         }
         match place {
             Place::Before(moment) => self.breaks.contains(moment.address),
             Place::End(_) => false,
         }
     }
+}
+
+/// What keeps the moments that commands go back to, where some command is `back`. It takes all the memory that it will use.
+pub fn open_undo(alloc: Global, commands: &[DebugCommand]) -> Result<Option<Undo>, AllocError>
+    ensures { IfOk result (λ undo. undo ≡ new_undo commands.now) }
+{
+    if !has_back(commands) {
+        return Ok(None);
+    }
+    let undo = Undo::new(alloc)?;
+    Ok(Some(undo))
 }
 
 // Whether a command goes back to a moment that is kept.

@@ -11,5 +11,5 @@ mod reading;
 mod scene;
 
 pub use command::{CommandKind, CommandStop, DebugCommand};
-pub use debugger::{Debugger, the_log_is_that_of_the_run};
+pub use debugger::{Debugger, open_undo, the_log_is_that_of_the_run};
 pub use reading::read_commands;

@@ -17,6 +17,7 @@ ghost use Rattle.uxn_debugger.specs.Printing.{
   printed,
 };
 ghost use Rattle.uxn_debugger.specs.Scenes.{view_in};
+ghost use Rattle.uxn_debugger.specs.Watching.{held_in};
 ghost use Rattle.uxn_debugger.specs.declared.place.Place.TheVariants.{Before};
 
 use crate::command::DebugCommand;
@@ -24,7 +25,7 @@ use crate::place::Place;
 use crate::scene::Scene;
 use std::alloc::AllocError;
 use system_port::debug_text;
-use tal_symbols::{Label, nearest};
+use tal_symbols::LabelTable;
 use tal_words::op_name;
 use uxn_io_traits::{append_pieces, decimal, hex_byte, hex_short};
 use uxn_opcodes::Ports;
@@ -44,7 +45,7 @@ pub(crate) fn put_printed<P: Ports>(
     reach: u32,
     command: DebugCommand,
 ) -> Result<(), AllocError>
-    requires { scene.now.back ≤ length scene.now.undo.now }
+    requires { scene.now.back ≤ length (held_in scene.now.undo.now) }
     ensures { OnOk result ((page : Page) → IsPage (P.rules.reads ports.now scene.now.core.now) (P.stored ports.now) page
         → log.new.items ≡ log.old.items ++ printed scene.now.labels.now reach (view_in scene.now page.read) command) }
 {
@@ -83,7 +84,7 @@ fn put_held(log: &mut Vec<u8>, reach: u32) -> Result<(), AllocError>
 
 // Prints the place line.
 pub(crate) fn put_place(log: &mut Vec<u8>, scene: &Scene<'_>) -> Result<(), AllocError>
-    requires { scene.now.back ≤ length scene.now.undo.now }
+    requires { scene.now.back ≤ length (held_in scene.now.undo.now) }
     ensures { OnOk result ((page : List ℕ)
         → log.new.items ≡ log.old.items ++ place_observed scene.now.labels.now (view_in scene.now page)) }
 {
@@ -96,7 +97,7 @@ pub(crate) fn put_place(log: &mut Vec<u8>, scene: &Scene<'_>) -> Result<(), Allo
 #[tactic(auto, unfolding(crate::specs::Printing::place_line))]
 fn put_place_line(
     log: &mut Vec<u8>,
-    labels: &[Label],
+    labels: &LabelTable<'_>,
     opcode: u8,
     place: Place,
 ) -> Result<(), AllocError>
@@ -115,7 +116,7 @@ fn put_place_line(
 #[tactic(auto, unfolding(crate::specs::Printing::place_line))]
 fn put_moment(
     log: &mut Vec<u8>,
-    labels: &[Label],
+    labels: &LabelTable<'_>,
     opcode: u8,
     moment: Moment,
 ) -> Result<(), AllocError>
@@ -137,10 +138,10 @@ fn put_moment(
 }
 
 // Prints the nearest label that is not above an address, if there is one, and how far the address is from it.
-fn put_label(log: &mut Vec<u8>, labels: &[Label], address: u16) -> Result<(), AllocError>
+fn put_label(log: &mut Vec<u8>, labels: &LabelTable<'_>, address: u16) -> Result<(), AllocError>
     ensures { OnOk result (log.new.items ≡ log.old.items ++ label_text (nearest_label labels.now address) address) }
 {
-    let Some(label) = nearest(labels, address) else {
+    let Some(label) = labels.nearest(address) else {
         return Ok(());
     };
     append_pieces(
@@ -162,7 +163,7 @@ fn put_memory(
     address: u16,
     count: u16,
 ) -> Result<(), AllocError>
-    requires { scene.now.back ≤ length scene.now.undo.now }
+    requires { scene.now.back ≤ length (held_in scene.now.undo.now) }
     ensures { OnOk result ((page : List ℕ)
         → log.new.items ≡ log.old.items ++ memory_table (view_in scene.now page).byte address count) }
 {
@@ -176,7 +177,7 @@ fn put_memory(
 // Prints the bytes of the 256 ports.
 #[tactic(auto, unfolding(crate::specs::Printing::table))]
 fn put_ports<P: Ports>(log: &mut Vec<u8>, scene: &Scene<'_>, ports: &P) -> Result<(), AllocError>
-    requires { scene.now.back ≤ length scene.now.undo.now }
+    requires { scene.now.back ≤ length (held_in scene.now.undo.now) }
     ensures { OnOk result ((page : Page) → IsPage (P.rules.reads ports.now scene.now.core.now) (P.stored ports.now) page
         → log.new.items ≡ log.old.items ++ port_table (view_in scene.now page.read).page) }
 {

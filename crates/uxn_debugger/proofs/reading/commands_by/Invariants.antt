@@ -4,7 +4,7 @@ use Rattle.text_lines.specs.Lines.{lines_of}
 use Rattle.text_lines.specs.Reading.{given, each_line}
 use Rattle.uxn_debugger.specs.CommandLines.{command_line_of}
 use Rattle.uxn_debugger.specs.CommandTexts.{command_fault}
-use Rattle.uxn_debugger.proofs.reading.read_commands.Given as goal
+use Rattle.uxn_debugger.proofs.reading.commands_by.Given as goal
 
 abbrev pub invariant-loop-line : goal.invariant-loop-line
 invariant-loop-line l = record {
