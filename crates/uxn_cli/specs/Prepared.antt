@@ -18,6 +18,7 @@ use Rattle.uxn_cli.specs.Made.{Made}
 use Rattle.uxn_cli.specs.Outputs.{paths_of}
 use Rattle.uxn_cli.specs.declared.task_files.refusal.Halt.{Halt}
 use Rattle.uxn_line.specs.Streams.{clock_by}
+use Rattle.uxn_debugger.specs.Watching.{new_undo}
 use Rattle.uxn_cli.specs.declared.playing.Prepared.{Prepared}
 use Rattle.uxn_cli.specs.declared.debugging.Session.{Session}
 use Rattle.uxn_cli.specs.RunJob.{Debugging, RunJob, debugging}
@@ -46,11 +47,11 @@ prepared_job run rom prepared =
 abbrev pub prepared_plan : RunTask → List ℕ → Prepared → Plan
 prepared_plan run rom prepared = planned (Run (prepared_job run rom prepared)) prepared.included.items
 
--- a run that is ready: its machine is new, its debugger keeps no moments yet, and its files are its outputs
+-- a run that is ready: its machine is new, its debugger keeps no moments yet, and can where commands go back, and its files are its outputs
 pub record IsReadyRun (run : RunTask) (debug : Option DebugTask) (rom : List ℕ) (prepared : Prepared) : Type 0 where
   pub core : prepared.machine.value.core ≡ new_core rom
   pub devices : AreNew prepared.machine.value.devices prepared.machine.value.script run.root
-  pub undo : IfSome prepared.session (λ session. session.undo ≡ [])
+  pub undo : IfSome prepared.session (λ session. session.undo ≡ new_undo session.commands.items)
   pub outputs : paths_of prepared.outputs.items ≡ run_outputs run debug
 
 -- a run that is prepared: its inputs were accepted, it is ready, and its outputs were made

@@ -1,7 +1,8 @@
 //! The debugger of a run, and the log that it writes.
-ghost use Rattle.std.specs.Prelude.{◌≡◌, ◌≤◌, [], None, Some, IsSome};
+ghost use Rattle.std.specs.Prelude.{◌≡◌, ◌≤◌, None, Some, IsSome};
 ghost use Rattle.uxn_io_traits.specs.Ended.{RefusesNone};
 ghost use Rattle.vector_loop.specs.Outputs.{IsOutput};
+ghost use Rattle.uxn_debugger.specs.Watching.{new_undo};
 ghost use Rattle.uxn_cli.specs.Outside.{SameHost, outside_of};
 ghost use Rattle.uxn_cli.specs.Prepared.{AreNew, session_debugging};
 ghost use Rattle.uxn_cli.specs.RunsFromRoot.{RunsFromRoot, RunFiles, task_trace, logged_changes};
@@ -26,8 +27,8 @@ pub struct Session {
     pub commands: Vec<DebugCommand>,
     /// The labels that its log names.
     pub labels: Vec<Label>,
-    /// What keeps the moments that commands go back to.
-    pub undo: Undo,
+    /// What keeps the moments that commands go back to, where some command goes back.
+    pub undo: Option<Undo>,
 }
 
 /// Runs a machine that is ready under its debugger, and writes the report and the log.
@@ -39,7 +40,7 @@ pub fn run_session<T: Tree, O: Sink, E: Sink>(
     host: &mut Host<'_, '_, '_, T, O, E>,
 ) -> Result<RunEnd, Stop>
     requires devices { AreNew machine.old.devices machine.old.script run.now.root }
-    requires undo { session.undo ≡ [] }
+    requires undo { session.undo ≡ new_undo session.commands.items }
     requires budget { 1 ≤ run.now.budget }
     requires files { RunFiles run.now (T.state host.old.tree.now).contents }
     requires log { IsOutput run.now.root (T.state host.old.tree.now).contents session.task.log }
@@ -57,7 +58,7 @@ pub fn run_session<T: Tree, O: Sink, E: Sink>(
         labels,
         undo,
     } = session;
-    let mut debugger = Debugger::new(alloc, commands, &labels, undo);
+    let mut debugger = Debugger::with_undo(alloc, commands, &labels, undo);
     let end = run_made(run, machine, host, &mut debugger)?;
     write_text(&Some(task.log), debugger.log(), host.tree)
         .and(Ok(end))

@@ -1,10 +1,11 @@
 //! What `play` and `debug` do: a program is run over a script, and a debugger may watch it.
-ghost use Rattle.std.specs.Prelude.{◌≡◌, ◌≤◌, [], None, Some, Ok, IfOk, IfSome, IsSome, length, option_map};
+ghost use Rattle.std.specs.Prelude.{◌≡◌, ◌≤◌, None, Some, Ok, IfOk, IfSome, IsSome, length, option_map};
 ghost use Rattle.uxn_io_traits.specs.Ended.{RefusesNone};
 ghost use Rattle.uxn_arguments.specs.Places.{HasApartOutputs};
 ghost use Rattle.uxn_arguments.specs.declared.task.Task.TheVariants as tasks;
 ghost use Rattle.vector_loop.specs.Outputs.{IsOutput};
 ghost use Rattle.uxn_arguments.specs.Options.{run_outputs as output_paths};
+ghost use Rattle.uxn_debugger.specs.Watching.{new_undo};
 ghost use Rattle.uxn_cli.specs.Outputs.{paths_of};
 ghost use Rattle.uxn_cli.specs.Verdict.{run_plan};
 ghost use Rattle.uxn_memory.specs.Bytes.{largest_rom};
@@ -22,10 +23,9 @@ use crate::task_files::{Halt, Output, Program, RunInputs, empty_outputs, make_ou
 use std::alloc::{AllocError, Global};
 use tal_words::Label;
 use uxn_arguments::{DebugTask, RunTask, run_outputs};
-use uxn_debugger::DebugCommand;
+use uxn_debugger::{DebugCommand, open_undo};
 use uxn_io_traits::{Path, Sink, Tree};
 use uxn_opcodes::Stop;
-use uxn_undo::Undo;
 use vector_loop::NoWatch;
 
 /// A machine, what a debugger does with its run, where one watches it, and the files of the run.
@@ -50,12 +50,12 @@ fn open_session(
 ) -> Result<Option<Session>, AllocError>
     ensures debugger { IfOk result (λ opened. option_map session_debugging opened
         ≡ option_map (λ task. debugging task commands.items labels.items) debug.now) }
-    ensures undo { IfOk result (λ opened. IfSome opened (λ session. session.undo ≡ [])) }
+    ensures undo { IfOk result (λ opened. IfSome opened (λ session. session.undo ≡ new_undo session.commands.items)) }
 {
     let Some(task) = debug else {
         return Ok(None);
     };
-    let undo = Undo::new(alloc)?;
+    let undo = open_undo(alloc, commands.as_slice())?;
     Ok(Some(Session {
         task: *task,
         commands,
@@ -133,7 +133,7 @@ fn run_prepared<T: Tree, O: Sink, E: Sink>(
     host: &mut Host<'_, '_, '_, T, O, E>,
 ) -> Result<RunEnd, Stop>
     requires devices { AreNew prepared.machine.value.devices prepared.machine.value.script run.now.root }
-    requires undo { IfSome prepared.session (λ session. session.undo ≡ []) }
+    requires undo { IfSome prepared.session (λ session. session.undo ≡ new_undo session.commands.items) }
     requires budget { 1 ≤ run.now.budget }
     requires files { RunFiles run.now (T.state host.old.tree.now).contents }
     requires log { IfSome (prepared_debugging prepared) (λ debug. IsOutput run.now.root (T.state host.old.tree.now).contents debug.task.log) }

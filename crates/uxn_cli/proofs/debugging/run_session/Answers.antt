@@ -18,7 +18,7 @@ unfolding reference_trace
 returns-clause-runs g c =
     let commands = c.args.session.commands.items in
     let labels = c.args.session.labels.items in
-    let new = rw c.deref.ensures.value at c.new-debugger.ensures in
+    let new = rw c.deref.ensures.value at c.with_undo-debugger.ensures in
     let keeps = c.the_log_is_that_of_the_run.ensures.runs commands labels _ _ c.args.machine.now.script in
     let begun = first_state c.args.machine.now.core c.args.machine.now.script in
     rw (c.or.ensures, c.and.ensures)
