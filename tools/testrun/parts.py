@@ -47,6 +47,7 @@ PARTS = (
     Part("tools", ("tools/tests/run",)),
     Part("page", ("web/tests/run",)),
     Part("memory", ("bench/memory",), is_in_memory=True, row=" MB of ", option="--only"),
+    Part("counts", ("bench/run",), is_in_memory=True, row=" instructions of ", option="--only"),
     Part("conditions", (".ci/conditions",), is_in_memory=True),
     Part("lines", (".ci/lines",), is_in_memory=True),
 )
