@@ -11,6 +11,6 @@ event_byte Argument = 2
 event_byte Spacer = 3
 event_byte End = 4
 
--- an event of the console stores its byte and its kind
-abbrev pub given : List ℕ → ℕ → EventKind → List ℕ
-given page value kind = slice_set (slice_set page CONSOLE_READ value) CONSOLE_TYPE (event_byte kind)
+-- an event of the console stores its byte, and the byte of its kind
+abbrev pub given : List ℕ → ℕ → ℕ → List ℕ
+given page value kind = slice_set (slice_set page CONSOLE_READ value) CONSOLE_TYPE kind

@@ -1,22 +1,12 @@
 //! The console: bytes that a program writes, and the events that it is given. No call takes memory.
 #![tactic(auto)]
 
-ghost use Rattle.std.specs.Prelude.{◌≡◌, [], ◌∷◌, is_err};
+ghost use Rattle.std.specs.Prelude.{◌≡◌, ◌⊎◌, [], ◌∷◌, is_err};
 ghost use Rattle.uxn_io_traits.specs.Ended.{SinkEnded};
-ghost use Rattle.console_port.specs.declared.Output.TheVariants.{Standard, Error};
 ghost use Rattle.console_port.specs.Console.{event_byte, given};
 
 use uxn_io_traits::{Failed, Sink};
 use uxn_limits::ports;
-
-/// Where a program writes bytes.
-#[derive(Clone, Copy)]
-pub enum Output {
-    /// The standard output.
-    Standard,
-    /// The error output.
-    Error,
-}
 
 /// What a byte of an event is.
 #[derive(Clone, Copy)]
@@ -45,21 +35,24 @@ impl EventKind {
     }
 }
 
-/// Puts a byte on an output. After `Failed` neither has taken anything.
+/// Puts a byte on the output of a port: the standard output at 18, the error output at 19. After `Failed` neither has taken
+/// anything.
 pub fn console_write<O: Sink, E: Sink>(
     out: &mut O,
     err: &mut E,
-    output: Output,
+    port: u8,
     value: u8,
 ) -> Result<(), Failed>
-    ensures standard { output ≡ Standard → SinkEnded (value ∷ []) (is_err result) (O.state out.old) (O.state out.new) }
-    ensures error { output ≡ Error → SinkEnded (value ∷ []) (is_err result) (E.state err.old) (E.state err.new) }
-    ensures out_alone { output ≡ Standard → err.new ≡ err.old }
-    ensures err_alone { output ≡ Error → out.new ≡ out.old }
+    requires { port ≡ 0x18 ⊎ port ≡ 0x19 }
+    ensures standard { port ≡ 0x18 → SinkEnded (value ∷ []) (is_err result) (O.state out.old) (O.state out.new) }
+    ensures error { port ≡ 0x19 → SinkEnded (value ∷ []) (is_err result) (E.state err.old) (E.state err.new) }
+    ensures out_alone { port ≡ 0x18 → err.new ≡ err.old }
+    ensures err_alone { port ≡ 0x19 → out.new ≡ out.old }
 {
-    match output {
-        Output::Standard => put_byte(out, value),
-        Output::Error => put_byte(err, value),
+    if port == ports::CONSOLE_WRITE {
+        put_byte(out, value)
+    } else {
+        put_byte(err, value)
     }
 }
 
@@ -71,10 +64,10 @@ fn put_byte<S: Sink>(sink: &mut S, value: u8) -> Result<(), Failed>
     Ok(())
 }
 
-/// Stores an event: its byte, and the byte of its kind.
-pub fn give(page: &mut [u8; 256], value: u8, kind: EventKind)
+/// Stores an event: its byte in port 12, and the byte of its kind in port 17.
+pub fn give(page: &mut [u8; 256], value: u8, kind: u8)
     ensures { page.new ≡ given page.old value kind }
 {
     page[usize::from(ports::CONSOLE_READ)] = value;
-    page[usize::from(ports::CONSOLE_TYPE)] = kind.byte();
+    page[usize::from(ports::CONSOLE_TYPE)] = kind;
 }

@@ -17,10 +17,11 @@ ghost use Rattle.uxn_line.specs.Moves.{Came, Fails, Goes, MachineIsHeld, IsUnder
 
 use crate::member::Member;
 use crate::output::next_byte;
-use console_port::{Output, console_write};
+use console_port::console_write;
 use std::alloc::{AllocError, Global};
 use text_lines::{Clock, Script};
 use uxn_io_traits::{Bytes, Failed, NoSink, Sink};
+use uxn_limits::ports::CONSOLE_WRITE;
 use vector_loop::InputQueue;
 
 /// What a turn did, or why it did nothing.
@@ -169,7 +170,7 @@ impl<'a> Line<'a> {
         ensures { HandsOn index (byte ∷ []) self.old self.new (O.state out.old) (O.state out.new) result }
     {
         if index + 1 == self.members.len() {
-            console_write(out, &mut NoSink, Output::Standard, byte)?;
+            console_write(out, &mut NoSink, CONSOLE_WRITE, byte)?;
             return Ok(true);
         }
         if self.members[index + 1].is_full() {

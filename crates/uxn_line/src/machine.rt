@@ -59,7 +59,7 @@ fn hold(devices: &mut Devices, byte: u8, kind: EventKind) -> u16
     ensures vector { (state : DeviceState) → Rests devices.old state
         → result ≡ stored_short (storing ((CONSOLE_READ, byte) ∷ (CONSOLE_TYPE, event_byte kind) ∷ []) state).history CONSOLE_VECTOR }
 {
-    devices.give(byte, kind);
+    devices.give(byte, kind.byte());
     devices.stored_short(CONSOLE_VECTOR)
 }
 

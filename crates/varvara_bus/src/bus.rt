@@ -3,7 +3,6 @@ ghost use Rattle.std.specs.Prelude.{◌≡◌, ℕ, slice_index, ◌+◌, ◌<�
 ghost use Rattle.uxn_limits.specs.declared.limits.TheConstants.{MOST_EVENTS};
 ghost use Rattle.uxn_limits.specs.declared.ports.TheConstants.{CONSOLE_READ, CONSOLE_TYPE};
 ghost use Rattle.varvara_bus.specs.State.{DeviceState, DevicesRepresent, storing, next_frame, rendered, screen_refreshed};
-ghost use Rattle.console_port.specs.Console.{event_byte};
 ghost use Rattle.screen_frame.specs.Colours.{colours_of};
 ghost use Rattle.screen_layers.specs.Layers as layers;
 ghost use Rattle.screen_layers.specs.Pictures.{marked_rows};
@@ -41,7 +40,7 @@ use crate::ports::Action;
 use crate::reading::read;
 use crate::screen::{ask_height, ask_width, draw_pixel, draw_sprite, palette, refresh};
 use crate::voices::{is_endless, pass_frame, render, start_note};
-use console_port::{EventKind, Output, console_write};
+use console_port::console_write;
 use input_ports::Input;
 use screen_frame::Palette;
 use screen_layers::Screen;
@@ -129,10 +128,10 @@ impl<'a, T: Tree, O: Sink, E: Sink> Bus<'a, T, O, E> {
         self.devices.store(port, value)
     }
 
-    /// Stores an event of the console: its byte in port 12 and its kind in port 17.
-    pub fn give(&mut self, value: u8, kind: EventKind)
+    /// Stores an event of the console: its byte in port 12, and the byte of its kind in port 17.
+    pub fn give(&mut self, value: u8, kind: u8)
         ensures devices { Becomes (contents_on T.Tree)
-            (λ state. storing ((CONSOLE_READ, value) ∷ (CONSOLE_TYPE, event_byte kind) ∷ []) state) self.old self.new }
+            (λ state. storing ((CONSOLE_READ, value) ∷ (CONSOLE_TYPE, kind) ∷ []) state) self.old self.new }
         ensures others { ChangesDevices self.old self.new }
         ensures frames { frames_begun self.new ≡ frames_begun self.old }
     {
@@ -323,8 +322,8 @@ impl<'a, T: Tree, O: Sink, E: Sink> Bus<'a, T, O, E> {
                 Ok(())
             }
             Action::PutsDebugText => { answer(put_debug_text(core, self.err, value)) }
-            Action::PutsOut => answer(console_write(self.out, self.err, Output::Standard, value)),
-            Action::PutsErr => answer(console_write(self.out, self.err, Output::Error, value)),
+            Action::PutsOut => answer(console_write(self.out, self.err, 0x18, value)),
+            Action::PutsErr => answer(console_write(self.out, self.err, 0x19, value)),
             Action::AsksWidth => {
                 ask_width(self.devices);
                 Ok(())

@@ -2,7 +2,7 @@
 ghost use Rattle.std.specs.Prelude.{◌≡◌, ℕ, Bool, ◌+◌, ◌*◌, ◌<◌, ◌==◌, if◌then◌else◌, IfOk, [], ◌∷◌, slice_index, slice_set, pos, neg_ℤ, ◌≤ℤ◌};
 ghost use Rattle.uxn_limits.specs.declared.limits.TheConstants.{MOST_EVENTS, LAST_SECOND, LAST_OFFSET};
 ghost use Rattle.uxn_limits.specs.declared.ports.TheConstants.{CONSOLE_READ, CONSOLE_TYPE};
-ghost use Rattle.console_port.specs.Console.{event_byte, given};
+ghost use Rattle.console_port.specs.Console.{given};
 ghost use Rattle.input_ports.specs.Page.{with_stores, stores_of, stores_after};
 ghost use Rattle.input_ports.specs.Page.{short_stores};
 ghost use Rattle.varvara_bus.specs.History.{at_first, made_ready, stored, stored_short};
@@ -64,11 +64,11 @@ impl Devices {
         self.page[usize::from(port)] = value;
     }
 
-    /// Stores an event of the console.
-    pub fn give(&mut self, value: u8, kind: EventKind)
+    /// Stores an event of the console: its byte in port 12, and the byte of its kind in port 17.
+    pub fn give(&mut self, value: u8, kind: u8)
         ensures devices { self.new ≡ record self.old { page = given self.old.page value kind } }
         ensures stands { (state : DeviceState) → DevicesRepresent self.old state
-            → DevicesRepresent self.new (storing ((CONSOLE_READ, value) ∷ (CONSOLE_TYPE, event_byte kind) ∷ []) state) }
+            → DevicesRepresent self.new (storing ((CONSOLE_READ, value) ∷ (CONSOLE_TYPE, kind) ∷ []) state) }
     {
         give(&mut self.page, value, kind);
     }

@@ -57,7 +57,7 @@ impl<'r, 'a, T: Tree, O: Sink, E: Sink, W: Watcher> Runner<'r, 'a, T, O, E, W> {
         ensures { Answers (models_of T.Tree O.Sink E.Sink W.Watcher) self.old self.new
             (console self.old.budget byte kind) (of_vectors 1) result }
     {
-        self.bus.give(byte, kind);
+        self.bus.give(byte, kind.byte());
         self.run_vector_in(CONSOLE_VECTOR)
     }
 
