@@ -1,7 +1,7 @@
 -- What it is to take a line from a source.
 use Rattle.std.specs.Prelude.{◌≡◌, ◌≢◌, ℕ, ◌<◌, Bool, true, false, List, [], ◌∷◌, ◌++◌, length}
 use Rattle.std.specs.List.{All}
-use Rattle.std.specs.Io.KnownBytes.{IsAtEnd}
+use Rattle.std.specs.Io.KnownBytes.{Consumes, IsAtEnd}
 use Rattle.uxn_io_traits.specs.Faults.{Counted}
 use Rattle.line_source.specs.Source.{SourceState, Took}
 use Rattle.line_source.specs.declared.lines.Ending.{Ending}
@@ -24,12 +24,14 @@ pub record TookLine (line : List ℕ) (ending : Ending) (before now : SourceStat
   pub plain : IsOneLine line
   pub end : ending ≡ End → IsAtEnd now.left
 
--- only a failed source counts a fault more; a long line has more bytes than this
-pub record StoppedIn (bytes : List ℕ) (failed : Bool) (before now : SourceState) : Type 0 where
-  pub plain : IsOneLine bytes
+-- why no line was taken: all bytes of it so far were taken, and none of them is a newline; only a failed source counts a fault
+pub record StoppedIn (line : List ℕ) (failed : Bool) (before now : SourceState) : Type 0 where
+  pub left : Consumes before.left now.left line
   pub counted : Counted before.tally now.tally failed
+  pub plain : IsOneLine line
 
+-- a long line has more bytes than it may have
 abbrev pub StopsLine : LineStop → ℕ → SourceState → SourceState → Type 0
-StopsLine Failed most before now = Counted before.tally now.tally true
-StopsLine Long most before now = (line : List ℕ) × Took line before now × IsOneLine line × (most < length line)
-StopsLine NoMemory most before now = Counted before.tally now.tally false
+StopsLine Failed most before now = (line : List ℕ) × StoppedIn line true before now
+StopsLine Long most before now = (line : List ℕ) × StoppedIn line false before now × (most < length line)
+StopsLine NoMemory most before now = (line : List ℕ) × StoppedIn line false before now

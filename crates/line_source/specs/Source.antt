@@ -1,6 +1,6 @@
 -- What contracts see of a source of bytes.
-use Rattle.std.specs.Prelude.{◌≡◌, ℕ, Bool, true, false, List, [], ◌∷◌, Option, Some, None}
-use Rattle.std.specs.Io.KnownBytes.{prepend_known, IsAtEnd}
+use Rattle.std.specs.Prelude.{◌≡◌, ℕ, true, false, List, [], ◌∷◌, Option, Some, None}
+use Rattle.std.specs.Io.KnownBytes.{Consumes, IsAtEnd, Keeps}
 use Rattle.uxn_io_traits.specs.Faults.{FaultTally, Counted}
 
 -- the bytes that are left, where they are known, and what the source counts
@@ -15,7 +15,7 @@ bytes_of (Some byte) = byte ∷ []
 
 -- these bytes were taken from its start, and no call failed
 pub record Took (bytes : List ℕ) (before now : SourceState) : Type 0 where
-  pub left : before.left ≡ prepend_known bytes now.left
+  pub left : Consumes before.left now.left bytes
   pub counted : Counted before.tally now.tally false
 
 -- it gave a byte, or none at its end
@@ -25,5 +25,5 @@ pub record Gave (byte : Option ℕ) (before now : SourceState) : Type 0 where
 
 -- it failed, and gave nothing
 pub record SourceFailed (before now : SourceState) : Type 0 where
-  pub left : now.left ≡ before.left
+  pub left : Keeps before.left now.left
   pub counted : Counted before.tally now.tally true

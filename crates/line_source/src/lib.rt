@@ -5,6 +5,8 @@ mod lines;
 mod memory;
 mod source;
 mod stream;
+#[cfg(test)]
+mod tests;
 
 pub use lines::{Ending, LineStop, next_line};
 pub use memory::MemSource;

@@ -1,8 +1,5 @@
 //! A reader, as the standard input, as a source.
-ghost use Rattle.std.specs.Prelude.{◌≡◌, IfOk, OnOk, OnErr};
-ghost use Rattle.uxn_io_traits.specs.Unknown.{exactly};
-ghost use Rattle.line_source.specs.Source.{Gave, SourceFailed};
-ghost use Rattle.line_source.specs.Stream.{input_state};
+ghost use Rattle.std.specs.Prelude.{◌<◌, vec_len};
 
 use crate::source::Source;
 use std::alloc::{AllocError, Global};
@@ -12,8 +9,8 @@ use uxn_io_traits::Failed;
 /// How many bytes are read at once, at most.
 const CHUNK: usize = 4096;
 
-/// Reads what is there, up to 4096 bytes, and gives it byte by byte. As a source its contents are unknown. It counts exactly the
-/// calls that failed.
+/// Reads what is there, up to 4096 bytes, and gives it byte by byte. As a source its contents are known where those of its reader
+/// are. It counts exactly the calls that failed.
 #[derive(Drop)]
 pub struct InputStream<R> {
     reader: R,
@@ -21,12 +18,20 @@ pub struct InputStream<R> {
     next: usize,
     count: usize,
     faults: u64,
+    ghost some: { 0 < vec_len chunk },
 }
 
 impl<R: Read + Drop> InputStream<R> {
+    ghost use Rattle.std.specs.Prelude.{◌≡◌, ◌∷◌, [], IfOk, OnOk, OnErr, MatchOption};
+    ghost use Rattle.std.specs.Io.KnownBytes.{IsAtEnd};
+    ghost use Rattle.line_source.specs.Source.{SourceFailed, Took};
+    ghost use Rattle.line_source.specs.Stream.{held_bytes, input_state};
+
     /// A source over a reader, with no fault so far. It takes all its memory now. Errors when out of memory.
     pub fn new(alloc: Global, reader: R) -> Result<InputStream<R>, AllocError>
-        ensures fresh { IfOk result (λ source. (input_state source).tally ≡ exactly 0) }
+        ensures reader { IfOk result (λ source. source.reader ≡ reader) }
+        ensures held { IfOk result (λ source. held_bytes source ≡ []) }
+        ensures faults { IfOk result (λ source. source.faults ≡ 0) }
     {
         let chunk = vec![in alloc; 0u8; CHUNK]?;
         Ok(InputStream {
@@ -40,7 +45,10 @@ impl<R: Read + Drop> InputStream<R> {
 
     /// The next byte that was read already, if one is left.
     fn held_byte(&mut self) -> Option<u8>
-        ensures { input_state self.new ≡ input_state self.old }
+        ensures held { MatchOption result (held_bytes self.old ≡ []) (λ byte. held_bytes self.old ≡ byte ∷ held_bytes self.new) }
+        ensures none { MatchOption result (held_bytes self.new ≡ []) (λ _. Unit {0}) }
+        ensures reader { self.new.reader ≡ self.old.reader }
+        ensures faults { self.new.faults ≡ self.old.faults }
     {
         if self.next >= self.count {
             return None;
@@ -50,19 +58,21 @@ impl<R: Read + Drop> InputStream<R> {
         byte
     }
 
-    /// Reads some bytes, or none at the end.
+    /// Reads some bytes, or none at the end, where none is left of those that were read.
     fn refill(&mut self) -> Result<(), Failed>
-        ensures ok { OnOk result (input_state self.new ≡ input_state self.old) }
-        ensures failed { OnErr result (SourceFailed (input_state self.old) (input_state self.new)) }
+        requires { held_bytes self.old ≡ [] }
+        ensures ok { OnOk result (Took [] (input_state R.remaining self.old) (input_state R.remaining self.new)) }
+        ensures end { OnOk result (held_bytes self.new ≡ [] → IsAtEnd (input_state R.remaining self.new).left) }
+        ensures failed { OnErr result (SourceFailed (input_state R.remaining self.old) (input_state R.remaining self.new)) }
     {
         self.next = 0;
+        self.count = 0;
         match self.reader.read(self.chunk.as_mut_slice()) {
             Ok(count) => {
                 self.count = count;
                 Ok(())
             }
             Err(_) => {
-                self.count = 0;
                 self.faults = self.faults.saturating_add(1);
                 Err(Failed)
             }
@@ -73,7 +83,7 @@ impl<R: Read + Drop> InputStream<R> {
 impl<R: Read + Drop> Source for InputStream<R> {
     ghost use Rattle.line_source.specs.Stream.{input_state};
 
-    ghost state = { input_state };
+    ghost state = { input_state R.remaining };
 
     fn next_byte(&mut self) -> Result<Option<u8>, Failed> {
         if let Some(byte) = self.held_byte() {
