@@ -24,7 +24,7 @@ pub record TookLine (line : List ℕ) (ending : Ending) (before now : SourceStat
   pub plain : IsOneLine line
   pub end : ending ≡ End → IsAtEnd now.left
 
--- why no line was taken: all bytes of it so far were taken, and none of them is a newline; only a failed source counts a fault
+-- bytes of a line that is not whole were taken; only a failed source counts a fault
 pub record StoppedIn (line : List ℕ) (failed : Bool) (before now : SourceState) : Type 0 where
   pub left : Consumes before.left now.left line
   pub counted : Counted before.tally now.tally failed
@@ -34,4 +34,4 @@ pub record StoppedIn (line : List ℕ) (failed : Bool) (before now : SourceState
 abbrev pub StopsLine : LineStop → ℕ → SourceState → SourceState → Type 0
 StopsLine Failed most before now = (line : List ℕ) × StoppedIn line true before now
 StopsLine Long most before now = (line : List ℕ) × StoppedIn line false before now × (most < length line)
-StopsLine NoMemory most before now = (line : List ℕ) × StoppedIn line false before now
+StopsLine NoMemory most before now = Counted before.tally now.tally false

@@ -50,7 +50,7 @@ impl<T: Drop> From<AllocFailed<T>> for LineStop {
 
 /// Takes the next line of a source, of at most `most` bytes, into `line`, and says what ends it. The newline is taken too, and
 /// is no part of the line.
-#[tactic(auto, using(crate::proofs::Taking::consumed_kept, uxn_io_traits::specs::FaultLaws::counted_then))]
+#[tactic(auto, using(crate::proofs::Taking::fails_within))]
 pub fn next_line<S: Source>(
     source: &mut S,
     line: &mut Vec<u8>,
