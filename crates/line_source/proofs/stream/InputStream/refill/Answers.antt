@@ -6,7 +6,7 @@ use Rattle.line_source.proofs.stream.InputStream.refill.Goals as goal
 
 pub returns-in-Ok-clause-ok : goal.returns-in-Ok-clause-ok
 returns-in-Ok-clause-ok g c = record {
-  left = refilled _ _ _ _ c.read.new.buf c.in-Ok.count c.requires (with_items_is _ _ (search (arith, rules))) c.in-Ok.ensures.bytes.0;
+  left = refilled _ _ _ _ c.read.new.buf c.in-Ok.count c.requires (with_items_is c.args.self.now.chunk c.read.new.buf (search (arith, rules))) c.in-Ok.ensures.bytes.0;
   counted = counted-same _;
 }
 
