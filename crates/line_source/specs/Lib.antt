@@ -1,0 +1,4 @@
+pub mod Source
+pub mod Lines
+pub mod Memory
+pub mod Stream
