@@ -55,6 +55,22 @@ class Fuzz(ToolTest):
         said = self.fuzz(FINE, "--runs", "400", "--against", "b.tal", "--first")
         self.assertIn("fuzz-different-frame.script: out differs from the other program's", said)
 
+    def test_an_assertion_that_does_not_hold(self) -> None:
+        """Those of an option, and those of a test that hold from its start on."""
+        said = self.fuzz(FINE, "--runs", "600", "--first", "--always", "@x < 05")
+        self.assertIn("tests/fuzz-always-frame.script: always @x < 05 did not hold\n    down left\n    frame 5\n", said)
+        self.assertIn(b"\n# always @x < 05\ndown left\n", self.read("tests/fuzz-always-frame.script"))
+        self.assertIn("it held 05 after frame 5", self.call("uxn-test").stdout.decode())
+        self.write("tests/fuzz-always-frame.script", "# always @x < 03\nframe\n# always @x < 01\n")
+        said = self.fuzz(FINE, "--runs", "600", "--save", "more")
+        self.assertIn("more/fuzz-always-frame.script: always @x < 03 did not hold\n    down left\n    frame 3\n", said)
+        self.assertNotIn("@x < 01", said)
+        self.assertIn("there is no label y", self.fuzz_refused("--always", "@y 00"))
+        self.assertIn("needs a value", self.fuzz_refused("--always", "@x"))
+
+    def fuzz_refused(self, *options: str) -> str:
+        return self.refuse(2, "uxn-fuzz", "a.tal", "--runs", "10", *options)
+
     def test_nothing_is_found_and_nothing_is_written(self) -> None:
         said = self.fuzz(FINE, "--runs", "200", status=0)
         self.assertRegex(said, r"^\d+ runs, .* 0 found, 100\.0 % of the instructions were run\n$")

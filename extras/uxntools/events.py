@@ -3,10 +3,22 @@
 from __future__ import annotations
 
 from collections.abc import Iterator
+from dataclasses import dataclass
 
 from uxntools import script
 
 NOT_EVENTS = (b"clock", b"args", b"script")
+
+
+@dataclass(frozen=True)
+class Place:
+    """The event in which a moment lies: its number, the number of the frame if it is one, the line of the script, and
+    how many frames have begun by then; 0 is the start."""
+
+    event: int
+    frame: int | None
+    line: int
+    frames: int = 0
 
 
 def _lines(data: bytes) -> Iterator[list[bytes]]:
@@ -33,6 +45,32 @@ def number_of(words: list[bytes]) -> int:
 def count(data: bytes) -> int:
     """How many events an accepted script has."""
     return sum(map(number_of, _lines(data)))
+
+
+def place_of(data: bytes, event: int) -> Place:
+    """The line of an event, which counts from 1, and its frame, which counts from 1 too."""
+    left, frames = event, 0
+    for number, words in script.lines(data):
+        size = number_of(words)
+        is_frame = words[0] == b"frame"
+        if size >= left > 0:
+            return Place(event, frames + left if is_frame else None, number, frames + left * is_frame)
+        left -= size
+        frames += size if is_frame else 0
+    return Place(event, None, 0, frames)
+
+
+def before(data: bytes, line: int) -> int:
+    """How many events come before a line of a script."""
+    return sum(number_of(words) for number, words in script.lines(data) if number < line)
+
+
+def arguments(data: bytes) -> bytes:
+    """The bytes that the arguments of a script give, with what comes after each."""
+    for words in _lines(data):
+        if words[0] == b"args":
+            return b"".join(_input([b"", word]) + b"\n" for word in words[1:])
+    return b""
 
 
 def prefix(data: bytes, events: int) -> bytes:

@@ -4,15 +4,13 @@ from __future__ import annotations
 import os
 import re
 
-from uxntools import log
+from uxntools import log, ports
 from uxntools.cli import Failure
 from uxntools.target import Program
 
 DISTANCE = re.compile(r"(?P<label>.+)\+(?P<distance>[0-9a-f]{1,4})")
 LINE = re.compile(r"(?P<path>.*):(?P<line>[0-9]{1,9})")
 ADDRESS = re.compile(r"[0-9a-f]{4}")
-# The names that the devices have in most sources; their labels are ports.
-DEVICE = re.compile(r"(System|Console|Screen|Audio\d*|Controller|Mouse|File\d*|DateTime)[/+]")
 # How many addresses are ports too.
 PORTS = 0x100
 
@@ -60,13 +58,19 @@ def of_address(program: Program, address: int) -> str:
 
 def is_port(program: Program, address: int) -> bool:
     """Whether the nearest label of an address is that of a device."""
-    return address < PORTS and DEVICE.match(of_address(program, address)) is not None
+    near = program.labels.nearest(address)
+    return address < PORTS and near is not None and is_port_label(program, near[0])
 
 
-def refuse_port(text: str, address: int) -> None:
+def is_port_label(program: Program, name: str) -> bool:
+    """Whether a label names a port: by the source, or by its name where there is none."""
+    return name in program.ports if program.ports is not None else ports.is_of_device(name)
+
+
+def refuse_port(program: Program, text: str, address: int) -> None:
     """Refuses the label of a device where the stores to a byte of memory are looked for."""
     name = text.removeprefix("@")
-    if address < PORTS and DEVICE.match(f"{name}+"):
+    if address < PORTS and is_port_label(program, os.fsencode(name).decode("latin-1")):
         raise Failure(f"{name} is a port, and only memory is watched: `print {name}` in uxn-debug shows the port")
 
 

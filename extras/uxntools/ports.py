@@ -2,7 +2,15 @@
 it."""
 from __future__ import annotations
 
+import re
+from collections.abc import Iterable
 from dataclasses import dataclass
+
+# The names that the devices have in most sources.
+NAMED = re.compile(r"(System|Console|Screen|Audio\d*|Controller|Mouse|File\d*|DateTime)(/.*)?", re.DOTALL)
+PAD = re.compile(r"\|([0-9a-f]{1,4})")
+MEMORY = re.compile(r"(LD|ST)[ZAR]2?k?r?")
+COUNT = 0x100
 
 
 @dataclass(frozen=True)
@@ -152,3 +160,35 @@ def declaration(device: str) -> str:
         parts.append(f"&{port.name} ${port.width}")
         at = port.address - base + port.width
     return f"|{base:02x} @{device} " + " ".join(parts)
+
+
+def is_of_device(name: str) -> bool:
+    """Whether a label has a name that devices have in most sources."""
+    return NAMED.fullmatch(name) is not None
+
+
+def labels(words: Iterable[bytes]) -> frozenset[str]:
+    """The labels of a source that name ports, by its words: those of the zero page after a pad that is not 0, and those
+    of the devices; but none that is read or written as memory."""
+    found: set[str] = set()
+    memory: set[str] = set()
+    pad, scope, before = COUNT, "", ""
+    for word in words:
+        text = word.decode("latin-1")
+        padded = PAD.fullmatch(text)
+        if padded:
+            pad = int(padded[1], 16)
+        elif text[:1] in ("@", "&") and len(text) > 1:
+            scope = text[1:].partition("/")[0] if text[0] == "@" else scope
+            name = _full(scope, text[text[0] == "@" :])
+            if 0 < pad < COUNT or pad == 0 and is_of_device(name):
+                found.add(name)
+        elif MEMORY.fullmatch(text) and before[:1] in (".", ";", ","):
+            memory.add(_full(scope, before[1:]))
+        before = text
+    return frozenset(found - memory)
+
+
+def _full(scope: str, name: str) -> str:
+    """The whole name of a label that stands in a scope."""
+    return f"{scope}/{name[1:]}" if name[:1] in ("&", "/") else name

@@ -10,7 +10,7 @@ from contextlib import ExitStack, contextmanager
 from dataclasses import dataclass, field, replace
 from types import MappingProxyType
 
-from uxntools import files, includes, listing, program, source, symbols
+from uxntools import files, includes, listing, ports, program, source, symbols
 from uxntools.cli import Failure
 from uxntools.files import Kind
 from uxntools.listing import Row
@@ -85,12 +85,13 @@ def of(given: argparse.Namespace) -> Target:
 
 @dataclass
 class Program:
-    """What is known of a program beside its run: where each of its bytes comes from, its labels, and the lines of
-    its files."""
+    """What is known of a program beside its run: where each of its bytes comes from, its labels, the lines of its
+    files, and which labels of its source name ports."""
 
     rows: list[Row]
     labels: Labels
     files: dict[str, list[str]]
+    ports: frozenset[str] | None = None
     by_address: dict[int, Row] = field(init=False)
 
     def __post_init__(self) -> None:
@@ -306,7 +307,8 @@ class Workspace:
         rows = [replace(row, path=self.path_of(row.path)) for row in found]
         names = dict.fromkeys([path, *(row.path for row in found)])
         texts = {self.path_of(name): lines_of(_data(self.path(name))) for name in names}
-        return Program(rows, self._labels(made["symbols"]), texts)
+        words = (word.text for word in source.flat_words(self.path(path), os.path.dirname(self.path(path))))
+        return Program(rows, self._labels(made["symbols"]), texts, ports.labels(words))
 
     def _rom_program(self) -> Program:
         """Of a ROM the lines are those of its disassembly, where it has one: `uxn dis` takes 65,280 bytes."""

@@ -169,7 +169,7 @@ class Prompt(cmd.Cmd):
 
     def do_watch(self, words: list[str]) -> None:
         address, length, name = self.span(words, 1)
-        places.refuse_port(name, address)
+        places.refuse_port(self.session.program, name, address)
         found = self.session.last_store(Watched(address, length))
         if found is None:
             print(f"nothing changed {address:04x} before this moment{places.note_of_ports(address)}")

@@ -8,9 +8,11 @@ from contextlib import contextmanager
 from dataclasses import dataclass
 
 from uxntools import files, program, report
+from uxntools.fuzzing.always import Always
 from uxntools.fuzzing.making import Lines
 
 CUT, STACK, STATUS, ERRORS, DIFFERENT, ENDED = "cut", "stack", "status", "errors", "different", "ended"
+ALWAYS = "always"
 STACKS = ("expect 04 00", "expect 05 00")
 SIGNAL = 128
 
@@ -26,22 +28,26 @@ class Wish:
 
 @dataclass(frozen=True)
 class Task:
-    """A program as a ROM, the folder of files that it begins with, and the ROM that it should be the same as."""
+    """A program as a ROM, the folder of files that it begins with, the ROM that it should be the same as, and the
+    assertions that hold after every vector."""
 
     rom: bytes
     budget: str | None = None
     root: str | None = None
     other: bytes | None = None
     wish: Wish = Wish()
+    always: Always | None = None
 
 
 @dataclass(frozen=True)
 class Outcome:
-    """What came of a run: the kind of what is wrong with it and why, and numbers that tell runs apart."""
+    """What came of a run: the kind of what is wrong with it and why, numbers that tell runs apart, and the assertion
+    that did not hold."""
 
     kind: str = ""
     reason: str = ""
     mark: tuple[int, ...] = ()
+    asserted: str = ""
 
 
 @dataclass(frozen=True)
@@ -86,7 +92,11 @@ class Runner:
         kind, reason = found or ("", "")
         if kind in wish.allowed:
             kind = reason = ""
-        return Outcome(kind, reason, (int(made.counts.get("instructions", "0")), len(made.out), made.status))
+        mark = int(made.counts.get("instructions", "0")), len(made.out), made.status
+        broken = self.task.always.broken(script_of(lines, False), made.counts) if self.task.always and not kind else None
+        if broken:
+            return Outcome(ALWAYS, f"{broken.text} did not hold", mark, broken.text)
+        return Outcome(kind, reason, mark)
 
     def _wrong(self, made: Made) -> tuple[str, str] | None:
         wish = self.task.wish

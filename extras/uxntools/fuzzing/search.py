@@ -20,16 +20,22 @@ MOST_KNOWN = 2_000
 
 @dataclass(frozen=True)
 class Find:
-    """A script that breaks the program, and why."""
+    """A script that breaks the program, why, and the assertion that did not hold."""
 
     lines: Lines
     kind: str
     reason: str
+    asserted: str = ""
 
     @property
     def place(self) -> tuple[str, str]:
-        """What finds are told apart by: the kind, and the first word of the last event."""
+        """The kind, and the first word of the last event."""
         return self.kind, self.lines[-1].split(" ")[0] if self.lines else ""
+
+    @property
+    def key(self) -> tuple[str, str, str]:
+        """What finds are told apart by: the place, and the assertion."""
+        return (*self.place, self.asserted)
 
 
 @dataclass
@@ -96,13 +102,18 @@ class Search:
 
     def _take(self, lines: Lines, outcome: Outcome) -> None:
         """Shrinks a script that breaks the program, if none like it was found."""
-        if Find(lines, outcome.kind, "").place in {find.place for find in self.finds}:
+        keys = {find.key for find in self.finds}
+        if Find(lines, outcome.kind, "", outcome.asserted).key in keys:
             return
-        shrunk = Shrinker(lambda tried: self._run(tried).kind == outcome.kind).shrink(lines)
-        find = Find(shrunk, outcome.kind, self._run(shrunk).reason)
-        if find.place not in {other.place for other in self.finds}:
+        shrunk = Shrinker(lambda tried: self._is_same(self._run(tried), outcome)).shrink(lines)
+        find = Find(shrunk, outcome.kind, self._run(shrunk).reason, outcome.asserted)
+        if find.key not in keys:
             self.finds.append(find)
             self.note(f"found: {find.reason}, with {len(find.lines)} lines")
+
+    @staticmethod
+    def _is_same(one: Outcome, other: Outcome) -> bool:
+        return (one.kind, one.asserted) == (other.kind, other.asserted)
 
     def progress(self) -> str:
         seconds = max(time.monotonic() - self.began, 0.001)

@@ -5,7 +5,7 @@ from collections import Counter
 from collections.abc import Iterator
 from dataclasses import dataclass
 
-from uxntools import events, script
+from uxntools.events import Place, place_of
 from uxntools.horizon import Horizon
 from uxntools.profiling import routines
 from uxntools.profiling.code import Code
@@ -23,16 +23,6 @@ class Routine:
     own: int
     whole: int
     entered: int
-
-
-@dataclass(frozen=True)
-class Place:
-    """The event in which a moment lies: its number, the number of the frame if it is one, and the line of the script;
-    0 is the start."""
-
-    event: int
-    frame: int | None
-    line: int
 
 
 @dataclass
@@ -100,19 +90,6 @@ class Profile:
         horizon = Horizon(self.workspace)
         data = self.workspace.script()
         return {moment: place_of(data, horizon.event_of(moment)) for moment in moments}
-
-
-def place_of(data: bytes, event: int) -> Place:
-    """The line of an event, which counts from 1, and its frame, which counts from 1 too."""
-    left, frames = event, 0
-    for number, words in script.lines(data):
-        size = events.number_of(words)
-        is_frame = words[0] == b"frame"
-        if size >= left > 0:
-            return Place(event, frames + left if is_frame else None, number)
-        left -= size
-        frames += size if is_frame else 0
-    return Place(event, None, 0)
 
 
 def profile(workspace: Workspace, most: int) -> Profile:

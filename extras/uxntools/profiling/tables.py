@@ -3,8 +3,9 @@ from __future__ import annotations
 
 from collections.abc import Iterator
 
+from uxntools.events import Place
 from uxntools.profiling.following import Vector
-from uxntools.profiling.result import Place, Profile
+from uxntools.profiling.result import Profile
 
 
 def percent(some: int, every: int) -> str:

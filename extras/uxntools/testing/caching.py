@@ -19,7 +19,7 @@ from uxntools import files, includes, source
 from uxntools.testing.discovery import WANTED, Test
 from uxntools.testing.running import KEPT, Result, kept_folder
 
-FORMAT = 1
+FORMAT = 2
 # How long a file has to be at rest, in nanoseconds, and how many bytes of a result are kept.
 REST = 50_000_000
 MOST = 4_000_000
@@ -216,7 +216,7 @@ class Keys:
     def of_wanted(self, test: Test) -> bytes:
         """The hash of all that decides whether a result passes."""
         settings = test.settings
-        parts: list[bytes | str] = [str(FORMAT), str((settings.ignore, settings.cuts, settings.misses))]
+        parts: list[bytes | str] = [str(FORMAT), str((settings.ignore, settings.cuts, settings.misses, settings.strict, settings.budgets))]
         for part in WANTED:
             if part == "after" and test.has(part):
                 parts += [part, self.digests.of_tree(test.full_path(part), test.folder)]

@@ -8,6 +8,7 @@ import signal
 import sys
 import time
 from collections.abc import Sequence
+from dataclasses import replace
 
 from uxntools import cli, files
 from uxntools.testing import comparing, showing, updating, warning
@@ -59,6 +60,9 @@ def parser() -> cli.Parser:
     made.add_argument("-l", "--list", action="store_true", help="only name the tests")
     made.add_argument("--fresh", action="store_true", help="run unchanged tests too")
     made.add_argument("--seconds", type=cli.number(1, 1000000), help="a test that runs longer fails")
+    made.add_argument(
+        "--strict", action="store_true", help="a stack that is not empty at the end of a vector fails the test"
+    )
     made.add_argument("--update", action="store_true", help="show what came, and record it as what is wanted")
     made.add_argument(
         "--allow",
@@ -95,7 +99,7 @@ def chosen_tests(given: argparse.Namespace) -> list[Test]:
         tests = tests[given.shard[0] - 1 :: given.shard[1]]
     for test in tests:
         _ = test.program
-    return tests
+    return [replace(test, settings=replace(test.settings, strict=True)) for test in tests] if given.strict else tests
 
 
 def warn(lines: Sequence[str]) -> None:
@@ -125,7 +129,7 @@ def update(tests: Sequence[Test], session: Session, allowed: frozenset[str]) -> 
     recorded = refused = 0
     for test in tests:
         result = session.result(test, updating.outputs_to_record(test))
-        made = updating.recording(test, result, allowed)
+        made = updating.recording(test, result, allowed, session.faults(test, result))
         head = "NOT RECORDED" if made.refused else "unchanged" if made.is_empty else "recorded"
         if made.has_pictures:
             made.lines.append(f"the pictures are in {showing.keep(test, None, made.shown, 'recorded')}")

@@ -5,7 +5,7 @@ import os
 import signal
 from dataclasses import dataclass
 
-from uxntools import files, program, report, script
+from uxntools import assertions, files, program, report, script
 from uxntools.testing.configuration import NAME
 from uxntools.testing.discovery import WANTED, Test
 from uxntools.testing.running import Result
@@ -22,14 +22,15 @@ REFUSED_STATUSES = {*program.REFUSED, 200}
 
 @dataclass(frozen=True)
 class Fault:
-    """Why a test fails: the part that is wrong, a line that says how, and, where bytes differ, those that are wanted
-    and those that came."""
+    """Why a test fails: the part that is wrong, a line that says how, lines that say more, and, where bytes differ,
+    those that are wanted and those that came."""
 
     part: str
     line: str
     wanted: bytes | None = None
     got: bytes | None = None
     kind: str = ""
+    more: tuple[str, ...] = ()
 
 
 def wanted_bytes(test: Test, part: str) -> bytes:
@@ -66,6 +67,11 @@ def script_bytes(test: Test) -> bytes:
 def script_expects(test: Test) -> int:
     """How many expects the script has."""
     return len(script.expects(script_bytes(test)))
+
+
+def has_expects(test: Test) -> bool:
+    """Whether the script says itself what is wanted: by expects or by assertions."""
+    return script_expects(test) > 0 or assertions.has_any(script_bytes(test))
 
 
 def _ended(test: Test, result: Result) -> Fault | None:
@@ -195,7 +201,7 @@ def wants_nothing(test: Test) -> bool:
     """Whether a test has neither a file that says what is wanted nor an expect."""
     if any(test.has(part) for part in WANTED if part not in ("report", *test.settings.ignore)) or wanted_lines(test):
         return False
-    return not script_expects(test) and test.settings.cuts is None
+    return not has_expects(test) and test.settings.cuts is None
 
 
 def faults(test: Test, result: Result) -> list[Fault]:

@@ -8,6 +8,7 @@ from dataclasses import dataclass, field, fields, replace
 from uxntools import files, includes
 from uxntools.includes import is_beneath
 from uxntools.cli import Failure
+from uxntools.vectors import KINDS
 
 NAME = includes.SETTINGS
 OUTPUTS = ("out", "err")
@@ -25,6 +26,19 @@ class Settings:
     ignore: tuple[str, ...] = ()
     cuts: int | None = None
     misses: int = 0
+    strict: bool = False
+    reset: int | None = None
+    console: int | None = None
+    frame: int | None = None
+    audio: int | None = None
+    controller: int | None = None
+    mouse: int | None = None
+
+    @property
+    def budgets(self) -> dict[str, int]:
+        """The most instructions of vectors, by their kinds, where they are set."""
+        found = {kind: getattr(self, kind) for kind in KINDS}
+        return {kind: count for kind, count in found.items() if count is not None}
 
     def merged(self, table: dict[str, object]) -> Settings:
         """These settings with those of a table in their place."""
@@ -33,7 +47,8 @@ class Settings:
 
 KEYS = {it.name for it in fields(Settings)}
 TEXTS = {"program", "root", "symbols"}
-COUNTS = {"budget": 1, "cuts": 0, "misses": 0}
+COUNTS = {"budget": 1, "cuts": 0, "misses": 0, **dict.fromkeys(KINDS, 1)}
+SWITCHES = {"rom", "strict"}
 
 
 @dataclass(frozen=True)
@@ -73,7 +88,7 @@ def _fault(name: str, value: object) -> str | None:
         return "it has to be a path beneath this folder"
     if name in COUNTS and not (isinstance(value, int) and not isinstance(value, bool) and value >= COUNTS[name]):
         return f"it has to be a number from {COUNTS[name]} on"
-    if name == "rom" and not isinstance(value, bool):
+    if name in SWITCHES and not isinstance(value, bool):
         return "it has to be true or false"
     if name == "ignore" and not (isinstance(value, list) and all(it in OUTPUTS for it in value)):
         return 'it has to be a list of "out" and "err"'

@@ -158,7 +158,7 @@ def write_test(given: argparse.Namespace, recorder: Recorder) -> int:
         name_program(given)
     test = discover([given.to])[0]
     result = run(test, updating.outputs_to_record(test))
-    made = updating.recording(test, result, frozenset())
+    made = updating.recording(test, result, frozenset(), comparing.faults(test, result))
     if made.refused:
         raise Failure(f"{given.to}.script is written, and nothing else: {made.refused[0]}")
     updating.write(test, made)

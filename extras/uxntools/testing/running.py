@@ -11,6 +11,7 @@ from dataclasses import dataclass, field
 
 from uxntools import files, program, report, source
 from uxntools.cli import Failure, shown
+from uxntools.target import Target
 from uxntools.testing.discovery import Test
 
 # The folder of a project in which runs write, and results and failed tests are kept.
@@ -136,6 +137,20 @@ class Result:
         """Whether the call came to its end: it was not refused, did not end early, and was no call that could not be
         made."""
         return 0 <= self.status < 128 and self.status not in NOT_DONE
+
+
+def target_of(test: Test) -> Target:
+    """The program of a test with its options, for tools that follow its run."""
+    budget = test.settings.budget
+    return Target(
+        test.program,
+        test.is_rom,
+        test.script,
+        (test.root or test.path("root")) if test.has_root else None,
+        None if budget is None else str(budget),
+        folder=test.folder,
+        makes_root=True,
+    )
 
 
 def usual_outputs(test: Test) -> frozenset[str]:

@@ -9,7 +9,7 @@ from dataclasses import dataclass, field
 
 from uxntools import files, misses, program
 from uxntools.cli import Failure, line_of
-from uxntools.testing import comparing, running, showing
+from uxntools.testing import asserting, comparing, running, showing
 from uxntools.testing.caching import Keys, Store
 from uxntools.testing.comparing import Fault
 from uxntools.testing.discovery import Test
@@ -54,6 +54,7 @@ class Session:
         self.uxn = program.path_of_uxn()
         self.stores: dict[str, Store] = {}
         self.keys: dict[str, Keys] = {}
+        self.programs = asserting.Programs()
         self.keeps = not _is_script(self.uxn)
         self.finished = 0
 
@@ -69,6 +70,7 @@ class Session:
 
     def look_anew(self) -> None:
         """Looks at all files anew from now on."""
+        self.programs.forget()
         for keys in self.keys.values():
             keys.forget()
 
@@ -128,7 +130,7 @@ class Session:
         """Runs a test, unless its result is known, and compares."""
         try:
             result = old or self.result(test)
-            found = comparing.faults(test, result)
+            found = self.faults(test, result)
         except Failure as failure:
             return self._failed(test, None, [Fault("test", failure.line)])
         except OSError as error:
@@ -141,6 +143,10 @@ class Session:
         outcome.is_old = old is not None
         return outcome
 
+    def faults(self, test: Test, result: Result) -> list[Fault]:
+        """All that is wrong with what came of a test, its assertions among it."""
+        return comparing.faults(test, result) + asserting.faults(test, result, self.programs)
+
     def result(self, test: Test, outputs: frozenset[str] | None = None) -> Result:
         start = time.monotonic()
         result = running.run(test, outputs, self.options.seconds, self.uxn)
@@ -152,6 +158,8 @@ class Session:
             one = showing.show(fault)
             if fault.kind == comparing.MISS:
                 one.lines += ["  " + line for line in misses.lines_of_test(test, running.kept_folder(test.folder))]
+            if fault.kind == comparing.CUT and result:
+                one.lines += ["  " + line for line in asserting.cuts(test, result, self.programs)]
             shown.append(one)
         kept = showing.keep(test, result, shown)
         return Outcome(test, result, found, [line for one in shown for line in one.lines], kept)

@@ -208,7 +208,7 @@ def show(fault: Fault) -> Shown:
     """A fault as lines, the first of which says what is wrong."""
     head = f"{fault.part}: {fault.line}"
     if fault.wanted is None or fault.got is None:
-        return Shown([head])
+        return Shown([head, *("  " + line for line in fault.more)])
     if fault.part == "ppm":
         inner = picture_difference(fault.wanted, fault.got)
     elif fault.part == "samples":

@@ -85,16 +85,16 @@ def _refusal(kind: str, line: str) -> str:
     return line if kind not in ALLOWED else f"not without --allow {kind}: {line}"
 
 
-def recording(test: Test, result: Result, allowed: frozenset[str]) -> Recording:
-    """What is to be recorded of a result, shown beside what was wanted before. A refusal, an early end, a cut or a
-    miss is recorded only where it is allowed."""
+def recording(test: Test, result: Result, allowed: frozenset[str], found: list[Fault]) -> Recording:
+    """What is to be recorded of a result with these faults, shown beside what was wanted before. A refusal, an early
+    end, a cut or a miss is recorded only where it is allowed."""
     made = Recording()
-    kinds = _kinds(comparing.faults(test, result))
+    kinds = _kinds(found)
     made.refused = [_refusal(kind, line) for kind, line in kinds.items() if kind not in allowed]
     if made.refused:
         return made
     parts = _new_parts(test, result, allowed)
-    if not any(parts.values()) and result.after is None and not comparing.script_expects(test):
+    if not any(parts.values()) and result.after is None and not comparing.has_expects(test):
         parts["out"] = b""
     for part, data in parts.items():
         old = comparing.wanted_bytes(test, part) if test.has(part) else None
