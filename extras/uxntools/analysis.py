@@ -4,14 +4,13 @@ says."""
 from __future__ import annotations
 
 import enum
-import os
 import re
 from bisect import bisect_left, bisect_right
 from collections.abc import Callable, Iterator
 from functools import lru_cache
 from typing import NamedTuple
 
-from uxntools import includes, opcodes, source
+from uxntools import opcodes, source
 from uxntools.source import Word
 
 RUNES = b",_.-;=!?"
@@ -20,8 +19,8 @@ NOT_FIRST = b'|$#@&,_.-;=!?"%~()[]{}/'
 DIGITS = re.compile(rb"[0-9a-f]+")
 _new = tuple.__new__  # makes a named tuple at once, where there are very many
 DEEPEST_USE, DEEPEST_INCLUDE, MOST_INCLUDES, MOST_WORDS = 32, 15, 256, 1_000_000
-# How many bytes a source has with all that it includes, and how many are read to find the sources that include one.
-MOST_TEXT, MOST_SEARCHED = 4_194_304, 8_388_608
+# How many bytes a source has with all that it includes.
+MOST_TEXT = 4_194_304
 
 
 class Kind(enum.Enum):
@@ -483,38 +482,6 @@ def lambdas(words: list[Placed]) -> dict[int, int]:
         elif text[-1:] == b"{" and shape(text).kind is Kind.OPENER:
             waiting.append(at)
     return pairs
-
-
-def sources_that_include(path: str, read: Callable[[str], bytes] = source.read, top: str | None = None) -> list[str]:
-    """The sources near a file that include it: of its folder and of those above it, up to `top` or four folders up.
-    Where the file has a project with an include root, they are those of the whole project."""
-    path = os.path.abspath(path)
-    closures: dict[str, set[str]] = {}
-    size = 0
-    for candidate in _candidates(path, top):
-        parts = list(source.closure(candidate, read))
-        closures[candidate] = {os.path.normpath(name) for name, _ in parts if name != candidate}
-        size += sum(len(data) for _, data in parts if isinstance(data, bytes))
-        if size > MOST_SEARCHED:
-            break
-    found = [one for one, names in closures.items() if path in names]
-    return [one for one in found if not any(one != other and one in closures[other] for other in found)]
-
-
-def _candidates(path: str, top: str | None) -> Iterator[str]:
-    """The sources that may include a file."""
-    folder = os.path.dirname(path)
-    if project := includes.project_of(folder):
-        yield from (one for one in includes.sources_of(project) if one != path)
-        return
-    for _ in range(5):
-        for name in sorted(os.listdir(folder)) if os.path.isdir(folder) else []:
-            candidate = os.path.join(folder, name)
-            if name.endswith(".tal") and candidate != path and os.path.isfile(candidate):
-                yield candidate
-        if folder in (top, os.path.dirname(folder)):
-            break
-        folder = os.path.dirname(folder)
 
 
 def comments(lines: list[bytes], found: list[Row], path: str = "") -> Iterator[tuple[Word, int]]:

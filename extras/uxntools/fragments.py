@@ -6,9 +6,10 @@ import os
 from collections.abc import Iterable, Sequence
 
 from uxntools import assembly, files, lint
-from uxntools.analysis import Analysis, sources_that_include
+from uxntools.analysis import Analysis
 from uxntools.cli import Failure
 from uxntools.lint import Alarm
+from uxntools.sharing import sources_that_include
 
 UNUSED = ("unused-label", "unused-macro", "unreachable")
 

@@ -4,9 +4,10 @@ from __future__ import annotations
 
 import os
 
-from uxntools.analysis import Analysis, sources_that_include
+from uxntools.analysis import Analysis
 from uxntools.lsp.documents import Files, bytes_of, path_of
 from uxntools.lsp.protocol import INVALID_PARAMS, Json, Refusal
+from uxntools.sharing import sources_that_include
 from uxntools.source import Word
 
 MOST_MAINS = 4
