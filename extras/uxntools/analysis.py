@@ -4,6 +4,7 @@ says."""
 from __future__ import annotations
 
 import enum
+import os
 import re
 from bisect import bisect_left, bisect_right
 from collections.abc import Callable, Iterator
@@ -251,6 +252,7 @@ class Analysis:
         self.references: dict[Entity, list[Word]] = {}
         self.scopes: dict[str, list[tuple[int, int, bytes]]] = {}
         self._read = read
+        self._named: dict[tuple[str, int, int], list[Entity]] | None = None
         _Walk(self, expand).run()
 
     def rows_of(self, path: str) -> list[Row]:
@@ -269,6 +271,23 @@ class Analysis:
     def entity_at(self, word: Word) -> Entity | None:
         """What the word at a place names."""
         return self.places.get((word.path, word.line, word.column))
+
+    def entities_at(self, path: str, line: int, column: int) -> list[Entity]:
+        """What the word at a place names: of a word in the body of a macro there may be several names."""
+        if self._named is None:
+            self._named = {}
+            words = [(entity, word) for entity, found in self.references.items() for word in found]
+            words += [(Entity(False, label.name), label.word) for label in (*self.labels.values(), *self.twice)]
+            words += [(Entity(True, macro.name), macro.word) for macro in self.macros.values()]
+            for entity, word in words:
+                self._named.setdefault((word.path, word.line, word.column), []).append(entity)
+        return self._named.get((path, line, column), [])
+
+    def path_of(self, path: str) -> str | None:
+        """A file of the source as the analysis names it; None for one that it does not include."""
+        if path in self.rows:
+            return path
+        return next((one for one in self.rows if os.path.normpath(one) == os.path.normpath(path)), None)
 
     def word_at(self, path: str, line: int, column: int) -> Word | None:
         """The word, outside comments, that has the byte of a place, or ends right before it."""

@@ -13,20 +13,35 @@ MOST_SEARCHED, MOST_NAMED = 8_388_608, 3
 START = (b"|0100", b"|100")
 
 
-def sources_that_include(path: str, read: Callable[[str], bytes] = source.read, top: str | None = None) -> list[str]:
-    """The sources near a file that include it: of its folder and of those above it, up to `top` or four folders up.
-    Where the file has a project with an include root, they are those of the whole project."""
-    path = os.path.abspath(path)
-    closures: dict[str, set[str]] = {}
-    size = 0
-    for candidate in _candidates(path, top):
-        parts = list(source.closure(candidate, read))
-        closures[candidate] = {os.path.normpath(name) for name, _ in parts if name != candidate}
-        size += sum(len(data) for _, data in parts if isinstance(data, bytes))
-        if size > MOST_SEARCHED:
-            break
-    found = [one for one, names in closures.items() if path in names]
-    return [one for one in found if not any(one != other and one in closures[other] for other in found)]
+class Finder:
+    """Finds the sources near a file that include it: of its folder and of those above it, up to `top` or four folders
+    up. Where the file has a project with an include root, they are those of the whole project. What a source includes
+    is looked at once."""
+
+    def __init__(self, read: Callable[[str], bytes] = source.read, top: str | None = None) -> None:
+        self._read, self._top = read, top
+        self._closures: dict[str, tuple[set[str], int]] = {}
+
+    def including(self, path: str) -> list[str]:
+        """The sources that include a file, but for those that others of them include."""
+        path = os.path.abspath(path)
+        closures: dict[str, set[str]] = {}
+        size = 0
+        for candidate in _candidates(path, self._top):
+            closures[candidate], read = self._closure(candidate)
+            size += read
+            if size > MOST_SEARCHED:
+                break
+        found = [one for one, names in closures.items() if path in names]
+        return [one for one in found if not any(one != other and one in closures[other] for other in found)]
+
+    def _closure(self, path: str) -> tuple[set[str], int]:
+        """The files that a source includes, and how many bytes they have with it."""
+        if path not in self._closures:
+            parts = list(source.closure(path, self._read))
+            names = {os.path.normpath(name) for name, _ in parts if name != path}
+            self._closures[path] = names, sum(len(data) for _, data in parts if isinstance(data, bytes))
+        return self._closures[path]
 
 
 def _candidates(path: str, top: str | None) -> Iterator[str]:
@@ -60,7 +75,7 @@ def programs_of_part(path: str) -> list[str]:
         return []
     parts = [data for _, data in source.closure(path) if isinstance(data, bytes)]
     has_start = any(word.text in START for data in parts for word in source.words(data))
-    return [] if has_start else sources_that_include(path)
+    return [] if has_start else Finder().including(path)
 
 
 def look_at_program(path: str) -> str:
