@@ -84,6 +84,58 @@ class IncludeRoot(ToolTest):
         self.assertIn("source lib/print.tal 2:10: UnknownName: foo\n", self.said(1, "uxn-test"))
         self.assertEqual(sorted(os.listdir(self.path("src"))), ["bye.tal", "hello.tal"])
 
+    def test_a_part_of_programs_is_not_run(self) -> None:
+        why = "lib/print.tal has no |0100 and is a part of src/bye.tal and src/hello.tal: name a program\n"
+        self.write("a.script", "expect 18 42\n")
+        for words in ("trace", "listing", "profile", "cover", "debug", "watch 0100 1", "misses --script a.script", "fuzz --runs 1"):
+            tool, *rest = words.split()
+            self.assertEqual(self.said(2, f"uxn-{tool}", "lib/print.tal", *rest), f"uxn-{tool}: {why}")
+        self.assertEqual(self.said(2, "uxn-record", "lib/print.tal", "--to", "tests/a"), f"uxn-record: {why}")
+        self.assertEqual(self.said(2, "uxn-film", "lib/print.tal", "--to", "a.png"), f"uxn-film: {why}")
+        for number in range(4):
+            self.write(f"src/more{number}.tal", HELLO)
+        self.assertIn("src/bye.tal, src/hello.tal, src/more0.tal and 3 more: name", self.said(2, "uxn-trace", "lib/print.tal"))
+
+    def test_a_program_that_another_one_includes_runs(self) -> None:
+        self.write("all.tal", "~src/hello.tal\n")
+        self.assertIn("#41 print", self.said(0, "uxn-trace", "src/hello.tal"))
+        self.assertIn("#41 print", self.said(0, "uxn-trace", "all.tal"))
+
+    def test_the_sandbox(self) -> None:
+        words = ["uxn-sandbox", "--isolation", "none"]
+        self.assertEqual(self.said(0, *words, "play", "src/hello.tal"), "A")
+        self.write("both.setup", "machine src/hello.tal\nmachine src/bye.tal\n")
+        self.assertEqual(self.said(0, *words, "line", "both.setup"), "B\n")
+        self.assertEqual(self.said(0, *words, "asm", "src/hello.tal", "--out", "src/a.rom"), "")
+        self.assertEqual(self.said(0, "uxn", "play", "src/a.rom", "--rom"), "A")
+        beneath = "lies beneath the root"
+        self.assertIn(f"src/lib/print.tal, {beneath}", self.said(201, *words, "play", "src/hello.tal", "--root", "src"))
+        self.assertEqual(self.said(0, *words, "play", "src/hello.tal", "--root", "lib"), "A")
+        self.write("lib/print.tal", FAULTY)
+        fault = "source lib/print.tal 2:10: UnknownName: foo\n"
+        self.assertEqual(self.said(131, *words, "play", "src/hello.tal"), fault)
+        self.assertEqual(self.said(131, *words, "line", "both.setup"), fault)
+        os.remove(self.path("lib/print.tal"))
+        os.symlink("/etc/passwd", self.path("lib/print.tal"))
+        self.assertIn("input lib/print.tal: it is a symbolic link", self.said(201, *words, "play", "src/hello.tal"))
+
+    def test_the_sandbox_hands_on_what_looks_like_a_refusal(self) -> None:
+        self.write("src/odd.tal", '|0100 ;text &on LDAk #19 DEO INC2 LDAk ?&on BRK @text "source 20 "x 00 ~lib/print.tal')
+        self.assertEqual(self.said(0, "uxn-sandbox", "--isolation", "none", "play", "src/odd.tal"), "source x")
+
+    def test_what_explain_says(self) -> None:
+        said = self.said(131, "uxn-explain", "uxn", "play", "src/hello.tal")
+        self.assertIn("Only the tools read include-from of uxn-test.toml.", said)
+        self.assertIn("Write: uxn-check src/hello.tal --out hello.rom, and uxn play src/hello.rom --rom\n", said)
+        self.said(0, "uxn-check", "src/hello.tal", "--out", "hello.rom")
+        self.assertEqual(self.said(0, "uxn", "play", "src/hello.rom", "--rom"), "A")
+        self.write("lib/print.tal", FAULTY)
+        said = self.said(131, "uxn-explain", "uxn", "asm", "lib/print.tal", "--out", "a.rom")
+        self.assertIn("`lib/print.tal` has no |0100 and is a part of src/bye.tal and src/hello.tal.", said)
+        os.remove(self.path("uxn-test.toml"))
+        said = self.said(131, "uxn-explain", "uxn", "asm", "src/hello.tal", "--out", "a.rom")
+        self.assertIn('Write: uxn-test.toml with the line include-from = ".", and uxn-check src/hello.tal --out', said)
+
     def test_misses(self) -> None:
         self.write("src/hello.tal", HELLO.replace("#800f DEO ", ""))
         self.write("a.script", "script 2\nexpect 18 42\n")

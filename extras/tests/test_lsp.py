@@ -365,7 +365,7 @@ class Diagnostics(Session):
 
     def check_fault(self, folder: str, main: str, wanted: re.Match[bytes]) -> None:
         place = os.path.normpath(os.path.join(folder, os.fsdecode(wanted["path"]))) if wanted["path"] else main
-        found = checks.of_source(main, {})[place]
+        found = [one for _, one in checks.of_source(main, {})[place]]
         with open(place, "rb") as file:
             line = file.read().split(b"\n")[int(wanted["line"]) - 1]
         start = {"line": int(wanted["line"]) - 1, "character": documents.units(line, int(wanted["column"]) - 1)}

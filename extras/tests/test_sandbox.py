@@ -450,7 +450,7 @@ class Reading(unittest.TestCase):
                     "p",
                 ]
             )
-            self.assertEqual((call.inputs, call.outputs, call.root), (["c", "r.rom", "y"], ["l", "p"], "a/b"))
+            self.assertEqual(([*call.inputs], call.outputs, call.root), (["c", "r.rom", "y"], ["l", "p"], "a/b"))
             call = sandbox.read_call(["asm", "a.tal", "--symbols", "y", "--out", "../o"])
             self.assertEqual((call.inputs, call.outputs, call.root), (["a.tal"], ["y"], None))
             with self.assertRaises(Failure):

@@ -11,7 +11,7 @@ from collections.abc import Callable, Iterator
 from functools import lru_cache
 from typing import NamedTuple
 
-from uxntools import includes, opcodes, source
+from uxntools import opcodes, source
 from uxntools.source import Word
 
 RUNES = b",_.-;=!?"
@@ -20,8 +20,8 @@ NOT_FIRST = b'|$#@&,_.-;=!?"%~()[]{}/'
 DIGITS = re.compile(rb"[0-9a-f]+")
 _new = tuple.__new__  # makes a named tuple at once, where there are very many
 DEEPEST_USE, DEEPEST_INCLUDE, MOST_INCLUDES, MOST_WORDS = 32, 15, 256, 1_000_000
-# How many bytes a source has with all that it includes, and how many are read to find the sources that include one.
-MOST_TEXT, MOST_SEARCHED = 4_194_304, 8_388_608
+# How many bytes a source has with all that it includes.
+MOST_TEXT = 4_194_304
 
 
 class Kind(enum.Enum):
@@ -252,6 +252,7 @@ class Analysis:
         self.references: dict[Entity, list[Word]] = {}
         self.scopes: dict[str, list[tuple[int, int, bytes]]] = {}
         self._read = read
+        self._named: dict[tuple[str, int, int], list[Entity]] | None = None
         _Walk(self, expand).run()
 
     def rows_of(self, path: str) -> list[Row]:
@@ -270,6 +271,23 @@ class Analysis:
     def entity_at(self, word: Word) -> Entity | None:
         """What the word at a place names."""
         return self.places.get((word.path, word.line, word.column))
+
+    def entities_at(self, path: str, line: int, column: int) -> list[Entity]:
+        """What the word at a place names: of a word in the body of a macro there may be several names."""
+        if self._named is None:
+            self._named = {}
+            words = [(entity, word) for entity, found in self.references.items() for word in found]
+            words += [(Entity(False, label.name), label.word) for label in (*self.labels.values(), *self.twice)]
+            words += [(Entity(True, macro.name), macro.word) for macro in self.macros.values()]
+            for entity, word in words:
+                self._named.setdefault((word.path, word.line, word.column), []).append(entity)
+        return self._named.get((path, line, column), [])
+
+    def path_of(self, path: str) -> str | None:
+        """A file of the source as the analysis names it; None for one that it does not include."""
+        if path in self.rows:
+            return path
+        return next((one for one in self.rows if os.path.normpath(one) == os.path.normpath(path)), None)
 
     def word_at(self, path: str, line: int, column: int) -> Word | None:
         """The word, outside comments, that has the byte of a place, or ends right before it."""
@@ -483,38 +501,6 @@ def lambdas(words: list[Placed]) -> dict[int, int]:
         elif text[-1:] == b"{" and shape(text).kind is Kind.OPENER:
             waiting.append(at)
     return pairs
-
-
-def sources_that_include(path: str, read: Callable[[str], bytes] = source.read, top: str | None = None) -> list[str]:
-    """The sources near a file that include it: of its folder and of those above it, up to `top` or four folders up.
-    Where the file has a project with an include root, they are those of the whole project."""
-    path = os.path.abspath(path)
-    closures: dict[str, set[str]] = {}
-    size = 0
-    for candidate in _candidates(path, top):
-        parts = list(source.closure(candidate, read))
-        closures[candidate] = {os.path.normpath(name) for name, _ in parts if name != candidate}
-        size += sum(len(data) for _, data in parts if isinstance(data, bytes))
-        if size > MOST_SEARCHED:
-            break
-    found = [one for one, names in closures.items() if path in names]
-    return [one for one in found if not any(one != other and one in closures[other] for other in found)]
-
-
-def _candidates(path: str, top: str | None) -> Iterator[str]:
-    """The sources that may include a file."""
-    folder = os.path.dirname(path)
-    if project := includes.project_of(folder):
-        yield from (one for one in includes.sources_of(project) if one != path)
-        return
-    for _ in range(5):
-        for name in sorted(os.listdir(folder)) if os.path.isdir(folder) else []:
-            candidate = os.path.join(folder, name)
-            if name.endswith(".tal") and candidate != path and os.path.isfile(candidate):
-                yield candidate
-        if folder in (top, os.path.dirname(folder)):
-            break
-        folder = os.path.dirname(folder)
 
 
 def comments(lines: list[bytes], found: list[Row], path: str = "") -> Iterator[tuple[Word, int]]:

@@ -2,7 +2,7 @@
 from __future__ import annotations
 
 import re
-from collections.abc import Callable, Iterator
+from collections.abc import Callable, Iterator, Sequence
 from typing import NamedTuple
 
 from uxntools import opcodes, ports
@@ -258,10 +258,12 @@ def _number(found: Analysis, placed: Placed) -> int | None:
     return label.address if label else None
 
 
-CHECKS: list[Callable[[Analysis], Iterator[Alarm]]] = [
-    unused_labels,
-    unused_macros,
-    unreachable,
+Check = Callable[[Analysis], Iterator[Alarm]]
+# What a shared file may have as long as another program uses it.
+UNUSED_CHECKS: list[Check] = [unused_labels, unused_macros, unreachable]
+UNUSED = ("unused-label", "unused-macro", "unreachable")
+CHECKS: list[Check] = [
+    *UNUSED_CHECKS,
     stack_effects,
     lits_before_literals,
     shadowed_labels,
@@ -301,9 +303,9 @@ class _Silence:
         return (path, line, alarm.name) in self.allowed or (path, 0, alarm.name) in self.allowed
 
 
-def alarms(found: Analysis) -> list[Alarm]:
+def alarms(found: Analysis, checks: Sequence[Check] = CHECKS) -> list[Alarm]:
     """All alarms of an expanded source that no comment silences, file by file in the order of reading."""
     silence = _Silence(found)
     order = {path: at for at, path in enumerate(found.rows)}
-    given = {alarm for check in CHECKS for alarm in check(found) if not silence.allows(alarm)} | set(silence.unknown)
+    given = {alarm for check in checks for alarm in check(found) if not silence.allows(alarm)} | set(silence.unknown)
     return sorted(given, key=lambda alarm: (order[alarm.word.path], alarm.word.line, alarm.word.column, alarm.name))

@@ -11,12 +11,14 @@ import subprocess
 import sys
 import threading
 from collections.abc import Iterator
+from contextlib import suppress
 from dataclasses import dataclass, field
 from typing import IO
 
-from uxntools import attached, cli, files, program, source
+from uxntools import attached, cli, files, includes, program, source
 from uxntools.cli import Failure
 from uxntools.files import Kind
+from uxntools.program import Done
 
 NOTHING_WAS_RUN = 201
 LIMIT_WAS_MET = 202
@@ -66,12 +68,17 @@ class Limits:
 
 @dataclass
 class Call:
-    """The files that the words of a call name."""
+    """The files that the words of a call name. Inputs are by the names that the call has for them: a file that a source
+    includes from the include root of its project has another name than its path."""
 
     words: list[str]
-    inputs: list[str] = field(default_factory=list)
+    inputs: dict[str, str] = field(default_factory=dict)
     outputs: list[str] = field(default_factory=list)
     root: str | None = None
+
+    def moved(self) -> dict[str, str]:
+        """The inputs with another name in the call than their path."""
+        return {name: path for name, path in self.inputs.items() if name != path}
 
 
 def is_path(name: str) -> bool:
@@ -101,27 +108,31 @@ def read_call(words: list[str]) -> Call:
         elif name in OUTPUTS.get(command, ()):
             call.outputs.append(value)
         elif name in INPUTS.get(command, ()) or not name and command != "gen":
-            call.inputs += _sources(value) if not name and "--rom" not in words and command != "dis" else [value]
-    if command == "line" and call.inputs:
-        call.inputs += _named_by_setup(call.inputs[0])
+            is_source = not name and "--rom" not in words and command not in ("dis", "line")
+            _add(call, _sources(value) if is_source else {value: value})
+            if command == "line":
+                _add_of_setup(call, value)
     return call
 
 
-def _named_by_setup(setup: str) -> list[str]:
-    """The sources and the script that the lines of a setup name."""
-    found = []
+def _add(call: Call, named: dict[str, str]) -> None:
+    """Adds inputs. Two files cannot have one name in the call, and what lies beneath the root has its own alone."""
+    for name, path in named.items():
+        if call.inputs.setdefault(name, path) != path:
+            raise Refused(f"input {path}: {call.inputs[name]} has its name in the call")
+
+
+def _add_of_setup(call: Call, setup: str) -> None:
+    """Adds the sources and the script that the lines of a setup name."""
     for line in read_text(setup).split(b"\n"):
         words = line.split()
         if len(words) == 2 and words[0] in (b"machine", b"script") and is_path(os.fsdecode(words[1])):
             name = os.fsdecode(words[1])
-            found += _sources(name) if words[0] == b"machine" else [name]
-    return found
+            _add(call, _sources(name) if words[0] == b"machine" else {name: name})
 
 
 def read_text(path: str) -> bytes:
     """A source or setup as far as `uxn` takes it: nothing of one that is too long or not there. No link is followed."""
-    if not is_path(path):
-        return b""
     look_at_path(path, "input")
     try:
         return source.read(path)
@@ -129,9 +140,21 @@ def read_text(path: str) -> bytes:
         return b""
 
 
-def _sources(path: str) -> list[str]:
-    """A source and the files beneath its folder that it includes."""
-    return [name for name, _ in source.closure(path, read_text) if is_path(name)]
+def _sources(path: str) -> dict[str, str]:
+    """A source and the files that it includes, by their names in the call: `uxn` begins at the folder of the source."""
+
+    def name_of(inner: str) -> str:
+        return path if inner == path else os.path.join(os.path.dirname(path), includes.name_of(path, inner))
+
+    def read_named(inner: str) -> bytes:
+        return read_text(inner) if is_path(name_of(inner)) else b""
+
+    found: dict[str, str] = {}
+    for inner, _ in source.closure(path, read_named):
+        name = name_of(inner)
+        if is_path(name) and found.setdefault(name, inner) != inner:
+            raise Refused(f"input {inner}: {found[name]} has its name in the call")
+    return found
 
 
 def look_at_path(path: str, what: str) -> None:
@@ -183,11 +206,14 @@ def is_beneath(path: str, root: str | None) -> bool:
 
 def fill(folder: str, call: Call) -> None:
     """Makes the scratch folder: copies of the inputs, the folders of the outputs, and a place for the root."""
-    for path in call.inputs:
-        if os.path.isfile(path) and not is_beneath(path, call.root):
-            files.copy_file(path, files.make_inner(folder, path), Kind(MOST_INPUT))
-        elif os.path.isdir(path) and not is_beneath(path, call.root):
-            files.make_inner(folder, os.path.join(path, ""))
+    for name, path in call.inputs.items():
+        if is_beneath(name, call.root):
+            if name != path:
+                raise Refused(f"input {path}: its name in the call, {name}, lies beneath the root")
+        elif os.path.isfile(path):
+            files.copy_file(path, files.make_inner(folder, name), Kind(MOST_INPUT))
+        elif os.path.isdir(path):
+            files.make_inner(folder, os.path.join(name, ""))
     for path in call.outputs:
         made = path if os.path.isdir(path) else os.path.dirname(path)
         if os.path.isdir(made or ".") and not is_beneath(made, call.root):
@@ -277,6 +303,8 @@ class Watch:
         self.folder, self.call, self.limits = folder, call, limits
         self.said: list[str] = []
         self.left = limits.printed
+        # What may be the line of a refused source, whose names are to be those of the files. Only the status says it.
+        self.held: bytes | None = b"" if call.moved() else None
         self._lock = threading.Lock()
         self._is_over = threading.Event()
         self._threads: list[threading.Thread] = []
@@ -305,6 +333,8 @@ class Watch:
             while data := os.read(given.fileno(), 1 << 16):
                 with self._lock:
                     data, self.left = data[: self.left], self.left - len(data)
+                if taken == sys.stderr.fileno() and self._holds(data):
+                    continue
                 try:
                     while data:
                         data = data[os.write(taken, data) :]
@@ -313,6 +343,21 @@ class Watch:
                 if self.left < 0:
                     self._stop(started, f"it has printed more than {self.limits.printed} bytes")
                     return
+
+    def _holds(self, data: bytes) -> bool:
+        """Holds back an error output that begins as the line of a refused source does."""
+        if self.held is not None and (self.held or data.startswith(b"source ")):
+            self.held += data
+            return True
+        self.held = None
+        return False
+
+    def hand_on_held(self, status: int) -> None:
+        """Hands on what was held back, once the status of the run is known."""
+        said = program.told(Done(status, b"", self.held or b""), self.call.moved()).err
+        with suppress(OSError):
+            sys.stderr.buffer.write(said)
+            sys.stderr.flush()
 
     def _watch(self, started: subprocess.Popen[bytes]) -> None:
         while not self._is_over.wait(PAUSE):
@@ -356,7 +401,7 @@ def limits_met(status: int, folder: str, call: Call, limits: Limits) -> Iterator
 def run(words: list[str], limits: Limits, isolation: str) -> int:
     """Looks at what a call of `uxn` names, runs it, and answers the status."""
     uxn, call = os.path.realpath(program.path_of_uxn()), read_call(words)
-    for path in call.inputs:
+    for path in call.inputs.values():
         look_at_input(path)
     for path in call.outputs:
         look_at_path(path, "output")
@@ -372,6 +417,7 @@ def run(words: list[str], limits: Limits, isolation: str) -> int:
         watch = Watch(folder, call, limits)
         status = attached.call([*command, *words], folder, limits.apply, watch.begin)
         watch.end()
+        watch.hand_on_held(status)
         if status not in program.REFUSED:
             move_outputs(folder, call)
         said = [*watch.said, *limits_met(status, folder, call, limits)]

@@ -10,7 +10,7 @@ from contextlib import ExitStack, contextmanager
 from dataclasses import dataclass, field, replace
 from types import MappingProxyType
 
-from uxntools import files, includes, listing, ports, program, source, symbols
+from uxntools import files, includes, listing, ports, program, sharing, source, symbols
 from uxntools.cli import Failure
 from uxntools.files import Kind
 from uxntools.listing import Row
@@ -80,6 +80,8 @@ def add_options(parser: argparse.ArgumentParser) -> None:
 
 
 def of(given: argparse.Namespace) -> Target:
+    if not given.rom:
+        sharing.look_at_program(given.source)
     return Target(given.source, given.rom, given.script, given.root, given.budget, given.symbols)
 
 

@@ -6,7 +6,7 @@ import re
 from collections.abc import Callable
 from dataclasses import dataclass
 
-from uxntools import files, program, source
+from uxntools import files, program, sharing, source
 from uxntools.cli import shown
 from uxntools.explaining import Reason, arguments, lines, quoted, sources
 from uxntools.explaining.arguments import Words
@@ -96,11 +96,22 @@ def _of_source(found: re.Match[str], words: Words, line: str) -> Explanation:
     names = sources.names_of(top) if top and os.path.isfile(top) else []
     reason = sources.reason(kind, word, names)
     if kind == "IncludeMissing" and top:
-        reason = sources.include_place(top, word) or reason
+        reason = sources.include_place(top, word, words.command) or reason
     excerpt = _excerpt(path, number, column, len(os.fsencode(word))) if path else ""
     return Explanation(
-        f"{prefix}{path}:{number}:{column}: {kind}: {word}" if path else "", excerpt, (reason,) if reason else ()
+        f"{prefix}{path}:{number}:{column}: {kind}: {word}" if path else "",
+        excerpt,
+        tuple(one for one in (reason, _of_part(top)) if one),
     )
+
+
+def _of_part(path: str) -> Reason | None:
+    """What is said of a source that is only a part of programs."""
+    including = sharing.programs_of_part(path) if path else []
+    if not including:
+        return None
+    why = f"{quoted(path)} has no |0100 and is a part of {sharing.named(including)}."
+    return Reason(why, f"uxn-check {path}, which checks it within them")
 
 
 def _path_of(of: str, words: Words) -> str:

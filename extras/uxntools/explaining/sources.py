@@ -6,7 +6,7 @@ import re
 from collections.abc import Callable, Sequence
 from difflib import get_close_matches
 
-from uxntools import opcodes, source
+from uxntools import includes, opcodes, source
 from uxntools.explaining import Reason, quoted
 
 RUNES = '|$#@&,_.-;=!?"%~()[]{}/'
@@ -278,14 +278,28 @@ def _path_why(path: str) -> str:
     )
 
 
-def include_place(path: str, word: str) -> Reason | None:
-    """Where the file of an include word lies, if it can be found: beside the file in which the word stands, or
-    without its first folder."""
+def include_place(path: str, word: str, command: str) -> Reason | None:
+    """Where the file of an include word lies, if it can be found: beneath the include root of the project, without the
+    first folder of its path, or beneath the current folder."""
     top, name = os.path.dirname(path), word[1:]
+    begin = includes.folder_of(path)
+    if begin != top and os.path.isfile(os.path.join(begin, name)):
+        why = f"{_include_missing(word, ()).why} Only the tools read include-from of {includes.SETTINGS}."
+        return Reason(why, _call_of_tools(path, command))
     for wanted in (name.partition("/")[2], os.path.basename(name)):
         if wanted and os.path.isfile(os.path.join(top, wanted)):
             return Reason(_include_missing(word, ()).why, f"~{wanted}")
+    if top and os.path.isfile(name):
+        setting = f'{includes.SETTINGS} with the line {includes.KEY} = "."'
+        return Reason(_include_missing(word, ()).why, f"{setting}, and {_call_of_tools(path, command)}")
     return None
+
+
+def _call_of_tools(path: str, command: str) -> str:
+    """The calls that do with a source of a project what a command does."""
+    rom = f"{os.path.splitext(os.path.basename(path))[0]}.rom"
+    made = f"uxn-check {path} --out {rom}"
+    return made if command == "asm" else f"{made}, and uxn {command} {os.path.join(os.path.dirname(path), rom)} --rom"
 
 
 def names_of(path: str) -> list[str]:

@@ -2,6 +2,7 @@
 from __future__ import annotations
 
 import os
+from itertools import count
 from urllib.parse import quote, unquote, urlsplit
 
 from uxntools import source
@@ -11,6 +12,8 @@ from uxntools.source import Word
 
 # How many bytes of files that are not open are kept.
 MOST_KEPT = 33_554_432
+# Each state of a buffer has a number of its own.
+STATES = count(1)
 
 
 def path_of(uri: str) -> str:
@@ -47,9 +50,11 @@ class Document:
     def __init__(self, uri: str, text: str, version: int) -> None:
         self.uri, self.version = uri, version
         self.lines = _encoded(text)
+        self.state = next(STATES)
 
     def change(self, change: Json) -> None:
         """Takes over a change: a range with its new text, or the whole text."""
+        self.state = next(STATES)
         if change.get("range") is None:
             self.lines = _encoded(change["text"])
             return
@@ -77,7 +82,7 @@ def _encoded(text: str) -> list[bytes]:
 
 
 class Files:
-    """All files by their paths. `generation` grows with each change that the editor tells."""
+    """All files by their paths. `generation` grows where the editor says that files changed."""
 
     def __init__(self) -> None:
         self.open: dict[str, Document] = {}
@@ -103,7 +108,10 @@ class Files:
         return data
 
     def stamp(self, path: str) -> tuple[int, int]:
-        """What changes where the file on the disk does."""
+        """What changes where the buffer of a file does, or else the file on the disk."""
+        document = self.open.get(os.path.normpath(path))
+        if document:
+            return -1, document.state
         try:
             found = os.stat(path)
         except (OSError, ValueError):

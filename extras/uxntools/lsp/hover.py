@@ -4,13 +4,15 @@ from __future__ import annotations
 import os
 
 from uxntools import includes, opcodes, ports
-from uxntools.analysis import Analysis, Entity, Kind, Shape, shape
+from uxntools.analysis import Analysis, Entity, Kind, Label, Shape, shape
+from uxntools.lsp import names
 from uxntools.lsp.documents import range_of
 from uxntools.lsp.protocol import Json
 from uxntools.lsp.workspace import Spot
 from uxntools.source import Word
 
-SHOWN_WORDS = 40
+# How many words of a macro are shown, and how many programs are named.
+SHOWN_WORDS, MOST_PROGRAMS = 40, 4
 
 
 def text_of(data: bytes) -> str:
@@ -30,7 +32,8 @@ def about(spot: Spot, word: Word) -> str:
     form = shape(word.text)
     entity = spot.found.entity_at(word)
     if entity:
-        return macro(spot.found, entity) if entity.is_macro else label(spot.found, entity)
+        uses = Uses(spot)
+        return macro(spot.found, entity, uses) if entity.is_macro else label(spot.found, entity, uses)
     if form.kind is Kind.OPCODE:
         return instruction(text_of(word.text))
     if form.kind in (Kind.LITERAL, Kind.RAW):
@@ -78,14 +81,40 @@ def number(form: Shape, behind: bytes) -> str:
     return "\n\n".join(lines + ([port.text()] if port else []))
 
 
-def macro(found: Analysis, entity: Entity) -> str:
+class Uses:
+    """The words that refer to a name, in all programs that have it, and where it is in each of them."""
+
+    def __init__(self, spot: Spot) -> None:
+        self.names = names.meant(spot)
+        self.count = len(names.places_of(self.names, False))
+        self.mains = list(dict.fromkeys(one.found.path for one in self.names))
+        self.top = spot.workspace.top
+
+    def said(self, what: str) -> str:
+        return counted(self.count, what) + (f" in {len(self.mains)} programs" if len(self.mains) > 1 else "")
+
+    def addresses(self) -> str:
+        """The addresses of a label, if the programs have it at several."""
+        labels = [(one.found.labels.get(one.entity.name), one.found.path) for one in self.names]
+        found = [(address_of(label), os.path.relpath(path, self.top)) for label, path in labels if label]
+        if len({address for address, _ in found}) < 2:
+            return ""
+        rest = len(found) - MOST_PROGRAMS
+        shown = [f"`{address}` in {path}" for address, path in found[:MOST_PROGRAMS]]
+        return ", ".join(shown) + (f", and {rest} more" if rest > 0 else "")
+
+
+def address_of(known: Label) -> str:
+    return f"{known.address:02x}" if known.address < 0x100 else f"{known.address:04x}"
+
+
+def macro(found: Analysis, entity: Entity, uses: Uses) -> str:
     known = found.macros.get(entity.name)
     if not known:
         return ""
     body = " ".join(text_of(word.text) for word in known.body[:SHOWN_WORDS]) + " .." * (len(known.body) > SHOWN_WORDS)
-    uses = len(found.references.get(entity, ()))
     lines = [
-        f"macro **{text_of(entity.name)}**, {counted(uses, 'use')}",
+        f"macro **{text_of(entity.name)}**, {uses.said('use')}",
         f"`%{text_of(entity.name)} {{ {body} }}`",
         *_comments(found, known.end, known.word),
     ]
@@ -101,17 +130,17 @@ def _comments(found: Analysis, last: Word, first: Word) -> list[str]:
     return [" ".join(text_of(text).strip("()").split()) for text in texts if text]
 
 
-def label(found: Analysis, entity: Entity) -> str:
+def label(found: Analysis, entity: Entity, uses: Uses) -> str:
     """A label: its address, its comments, and what the port means that it names."""
     known = found.labels.get(entity.name)
     name = text_of(entity.name)
     if not known:
         return f"`{name}` is defined nowhere"
-    uses = len(found.references.get(entity, ()))
-    address = f"{known.address:02x}" if known.address < 0x100 else f"{known.address:04x}"
     place = f"{os.path.relpath(known.word.path, os.path.dirname(found.path))}:{known.word.line}"
     kind = "sublabel" if known.word.text[:1] == b"&" else "label"
-    lines = [f"{kind} **{name}** at `{address}`, {counted(uses, 'reference')}, in {place}"]
+    lines = [f"{kind} **{name}** at `{address_of(known)}`, {uses.said('reference')}, in {place}"]
+    addresses = uses.addresses()
+    lines += [addresses] * bool(addresses)
     effect = found.comment_behind(known.word)
     lines += [f"`{text_of(effect)}`"] * bool(effect)
     above = found.comment_above(known.word)

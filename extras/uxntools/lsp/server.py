@@ -133,7 +133,7 @@ class Server:
 
     def _initialize(self, params: Json) -> Json:
         roots = [folder["uri"] for folder in params.get("workspaceFolders") or []] or [params.get("rootUri")]
-        self.workspace.top = path_of(roots[0]) if roots[0] else params.get("rootPath")
+        self.workspace.top = self.checker.top = path_of(roots[0]) if roots[0] else params.get("rootPath")
         symbols = params.get("capabilities", {}).get("textDocument", {}).get("documentSymbol", {})
         self.has_inner_symbols = bool(symbols.get("hierarchicalDocumentSymbolSupport"))
         self.is_initialized = True
@@ -193,7 +193,6 @@ class Server:
     def _close(self, params: Json) -> None:
         path = path_of(params["textDocument"]["uri"])
         self.workspace.files.open.pop(path, None)
-        self.workspace.files.generation += 1
         mains = self.workspace.mains_of(path)
         self.workspace.forget_mains()
         in_use = {main for other in self.workspace.files.open for main in self.workspace.mains_of(other)}
@@ -201,7 +200,7 @@ class Server:
             if main in in_use:
                 self._check([main])
             else:
-                self.checker.forget(main)
+                self.checker.forget(main, self.workspace.files.snapshot())
 
     def _files_changed(self, _params: Json) -> None:
         self.workspace.forget_mains()
@@ -209,7 +208,6 @@ class Server:
         self._check(list({main for path in self.workspace.files.open for main in self.workspace.mains_of(path)}))
 
     def _changed(self, path: str) -> None:
-        self.workspace.files.generation += 1
         self._check(self.workspace.mains_of(path))
 
     def _check(self, mains: list[str]) -> None:

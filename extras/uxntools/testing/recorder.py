@@ -8,7 +8,7 @@ import sys
 from collections.abc import Iterator
 from contextlib import contextmanager
 
-from uxntools import cli, files, program, script, source
+from uxntools import cli, files, program, script, sharing, source
 from uxntools.cli import Failure
 from uxntools.recording import Recorder, Session, Wrong
 from uxntools.testing import comparing, configuration, updating, warning
@@ -50,6 +50,8 @@ def check(given: argparse.Namespace) -> None:
     """Refuses what could not become a test, before anything is asked."""
     if given.program.endswith(".setup"):
         raise Failure(f"{given.program}: a line of machines is not recorded; write its script", 2)
+    if not given.program.endswith(".rom"):
+        sharing.look_at_program(given.program)
     if os.path.isabs(given.to) or os.path.normpath(given.to).startswith("..") or not os.path.basename(given.to):
         raise Failure(f"{given.to}: the test has to lie in this folder or beneath it", 2)
     if os.path.lexists(given.to + ".script"):
