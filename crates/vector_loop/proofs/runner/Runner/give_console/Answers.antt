@@ -9,4 +9,5 @@ pub returns : goal.returns
 unfolding console
 returns g c =
     answers-stored _ _ _ _ (storing ((CONSOLE_READ, c.args.byte) ∷ (CONSOLE_TYPE, event_byte c.args.kind) ∷ []))
-    (vector_in c.args.self.now.budget CONSOLE_VECTOR) (of_vectors 1) _ refl refl refl c.give.ensures.others c.give.ensures.frames c.give.ensures.devices.bus c.run_vector_in.ensures
+    (vector_in c.args.self.now.budget CONSOLE_VECTOR) (of_vectors 1) _ refl refl refl c.give.ensures.others c.give.ensures.frames
+    (rw c.byte.ensures at c.give.ensures.devices.bus) c.run_vector_in.ensures
