@@ -9,7 +9,7 @@ import tarfile
 import tempfile
 
 import contents
-from contents import Entries, Entry, Machine, NotMade
+from contents import Built, Entries, Entry, Machine, NotMade
 
 
 def tar(entries: Entries, top: str, when: int) -> bytes:
@@ -51,11 +51,11 @@ def sums(entries: Entries) -> bytes:
     return "".join(lines).encode()
 
 
-def write_deb(program: bytes, machine: Machine, path: str) -> None:
+def write_deb(built: Built, machine: Machine, path: str) -> None:
     version, when = contents.newest()
-    entries = contents.for_debian(program)
+    entries = contents.for_debian(built)
     head = {
-        "DEBIAN/control": Entry(control(entries, machine, version, contents.least_libc(program))),
+        "DEBIAN/control": Entry(control(entries, machine, version, contents.least_libc(built.program))),
         "DEBIAN/md5sums": Entry(sums(entries)),
     }
     with tempfile.TemporaryDirectory() as folder:

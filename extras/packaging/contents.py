@@ -90,17 +90,17 @@ def newest() -> tuple[str, int]:
     return version, moment(date)
 
 
-def program(folder: str, machine: Machine) -> bytes:
-    """The program of dist/ for a machine, which is the one that the manifest names."""
+def made(folder: str, name: str) -> bytes:
+    """A file of dist/, which is the one that the manifest names."""
     try:
         with open(os.path.join(folder, "manifest.json"), encoding="utf-8") as file:
-            wanted = str(json.load(file)["files"][machine.file])
-        with open(os.path.join(folder, machine.file), "rb") as program:
-            data = program.read()
+            wanted = str(json.load(file)["files"][name])
+        with open(os.path.join(folder, name), "rb") as there:
+            data = there.read()
     except (OSError, ValueError, LookupError, TypeError):
-        raise NotMade(f"{folder}: it has no {machine.file} with its manifest") from None
+        raise NotMade(f"{folder}: it has no {name} with its manifest") from None
     if hashlib.sha256(data).hexdigest() != wanted:
-        raise NotMade(f"{folder}/{machine.file}: it is not the file that manifest.json names")
+        raise NotMade(f"{folder}/{name}: it is not the file that manifest.json names")
     return data
 
 
@@ -166,12 +166,25 @@ def with_pages(entries: Entries) -> Entries:
     return found
 
 
-def common(program: bytes) -> Entries:
+@dataclass(frozen=True)
+class Built:
+    """What a package has of dist/: the program of its machine, and the page."""
+
+    program: bytes
+    page: bytes
+
+    @classmethod
+    def read(cls, folder: str, machine: Machine) -> Built:
+        return cls(made(folder, machine.file), made(folder, "uxn.html"))
+
+
+def common(built: Built) -> Entries:
     """What is installed everywhere, at its place beneath the prefix."""
     version, _ = newest()
     entries: Entries = {
         "bin/uxn": Entry(read("extras/packaging/uxn.sh").replace(b"@VERSION@", version.encode()), True),
-        "lib/uxn/uxn": Entry(program, True),
+        "lib/uxn/uxn": Entry(built.program, True),
+        f"{PAGES}/uxn.html": Entry(built.page),
         "share/uxn/help": Entry(read("tools/help.txt")),
         "share/bash-completion/completions/uxn": Entry(read("extras/completions/uxn.bash")),
     }
@@ -192,9 +205,9 @@ def for_neovim(to: str) -> Iterator[tuple[str, Entry]]:
         yield place, Entry(leads_to=os.path.relpath(f"{to}/{path}", os.path.dirname(place)))
 
 
-def for_folder(program: bytes) -> Entries:
+def for_folder(built: Built) -> Entries:
     """What a tar file and ./install have: some editors need a line that names a folder of it."""
-    entries = common(program)
+    entries = common(built)
     entries["share/zsh/site-functions/_uxn"] = Entry(read("extras/completions/_uxn"))
     for folder in ("vim", "emacs"):
         entries.update(copied(f"extras/{folder}", f"share/uxn/{folder}"))
@@ -206,9 +219,9 @@ def for_folder(program: bytes) -> Entries:
     return entries
 
 
-def for_debian(program: bytes) -> Entries:
+def for_debian(built: Built) -> Entries:
     """What a .deb has: each file where Debian's programs find it, and Debian's Python named in the tools."""
-    entries = common(program)
+    entries = common(built)
     version, _ = newest()
     entries["share/zsh/vendor-completions/_uxn"] = Entry(read("extras/completions/_uxn"))
     entries.update(copied("extras/vim", "share/vim/vimfiles"))

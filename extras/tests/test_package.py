@@ -33,9 +33,10 @@ UNNEEDED = re.compile(
 
 
 def make_dist(folder: str, program: bytes) -> None:
-    """A folder as dist/ is, with a program as that of both machines: for ARM its head says so."""
+    """A folder as dist/ is, with a page, and with a program as that of both machines: for ARM its head says so."""
     os.mkdir(folder)
     files = {"uxn-linux-x86_64": program, "uxn-linux-aarch64": program[:18] + AARCH64.to_bytes(2, "little") + program[20:]}
+    files["uxn.html"] = b"<!doctype html>\n"
     for name, data in files.items():
         with open(os.path.join(folder, name), "wb") as file:
             file.write(data)
@@ -110,6 +111,9 @@ class Files(PackageTest):
             with tarfile.open(tar) as archive:
                 found = archive.extractfile(f"uxn-{self.version}-{machine}/lib/uxn/uxn")
                 self.assertEqual(found and found.read(), program)
+                found = archive.extractfile(f"uxn-{self.version}-{machine}/share/doc/uxn/uxn.html")
+                self.assertEqual(found and found.read(), b"<!doctype html>\n")
+            self.assertEqual(self.read(f"{machine}/usr/share/doc/uxn/uxn.html"), b"<!doctype html>\n")
 
     def test_the_tar_file(self) -> None:
         with tarfile.open(self.tar) as file:
@@ -192,6 +196,12 @@ class Files(PackageTest):
         self.write("dist/uxn-linux-aarch64", b"another program")
         line = self.refuse(1, tool, "--dist", "dist", "--out", "out")
         self.assertEqual(line, "package: dist/uxn-linux-aarch64: it is not the file that manifest.json names")
+
+    def test_a_page_that_is_missing(self) -> None:
+        make_dist(self.path("dist"), b"a program")
+        os.remove(self.path("dist/uxn.html"))
+        line = self.refuse(1, os.path.join(EXTRAS, "package"), "--dist", "dist", "--out", "out")
+        self.assertEqual(line, "package: dist: it has no uxn.html with its manifest")
         self.assertFalse(os.path.exists(self.path("out")))
 
     @needs("lintian")

@@ -1,9 +1,10 @@
-"""Makes dist/: the program for three machines and the manifest, from the sources and their proved libraries."""
+"""Makes dist/: the program for three machines, the page and the manifest, from the sources and their proved libraries."""
 from __future__ import annotations
 
 import json
 import shutil
 import subprocess
+import sys
 import time
 from concurrent.futures import ThreadPoolExecutor
 from pathlib import Path
@@ -16,8 +17,9 @@ from .toolchain import Toolchain
 
 X86_FILE = "uxn-linux-x86_64"
 HOST = "uxn.mjs"
+PAGE = "uxn.html"
 MANIFEST = "manifest.json"
-MADE = (X86_FILE, *(machine.file for machine in machines.MACHINES))
+MADE = (X86_FILE, *(machine.file for machine in machines.MACHINES), PAGE)
 FILES = (*MADE, HOST)
 POLL = 0.2
 
@@ -50,6 +52,12 @@ def link_libraries(top: Path, crates: Crates, toolchain: Toolchain, folders: lis
             (into / f"{name}.rlib").symlink_to(library(top, name, folders).resolve())
     named = crates.below[PROGRAM]
     return {each: into / f"{each}.rlib" if each in crates.below else toolchain.library(each) for each in named}
+
+
+def make_page(top: Path, folder: Path) -> None:
+    """Makes the page in a folder, of the module and the host there."""
+    words = [sys.executable, str(top / "web" / "build"), "--dist", str(folder), "--out", str(folder / PAGE)]
+    machines.run("the page is not made", words)
 
 
 class Compilation:
@@ -109,6 +117,7 @@ def make(top: Path, program: Path, folders: list[Path], folder: Path) -> None:
         shutil.move(path, folder / path.name)
     shutil.rmtree(work)
     shutil.copy(top / "dist" / HOST, folder / HOST)
+    make_page(top, folder)
     (folder / MANIFEST).write_text(manifest_text(top, folder, toolchain.identity), encoding="utf-8")
 
 
@@ -134,4 +143,17 @@ def replace(dist: Path, folder: Path) -> None:
     for name in (*MADE, MANIFEST):
         # A program that runs keeps its file.
         (dist / name).unlink(missing_ok=True)
+        shutil.move(folder / name, dist / name)
+
+
+def renew_page(top: Path, folder: Path) -> None:
+    """Makes the page of dist/ again in an empty folder, of the module and the host of dist/; puts it and its manifest there."""
+    dist = top / "dist"
+    for name in ("uxn.wasm", HOST):
+        shutil.copy(dist / name, folder / name)
+    make_page(top, folder)
+    manifest = json.loads((dist / MANIFEST).read_text(encoding="utf-8"))
+    manifest["files"].update({name: sum_of((folder / name).read_bytes()) for name in (HOST, PAGE)})
+    (folder / MANIFEST).write_text(json.dumps(manifest, indent=2) + "\n", encoding="utf-8")
+    for name in (PAGE, MANIFEST):
         shutil.move(folder / name, dist / name)

@@ -49,6 +49,13 @@ class Checkout(unittest.TestCase):
             write(self.top / "crates" / name / "specs" / "own.antt", f"-- {name}\n")
         write(self.beside / "hello.tal", "|0100 LIT \"h #18 DEO BRK\n")
 
+    def fill_page(self) -> None:
+        """Puts the sources of the page there, with one example."""
+        shutil.copytree(TOP / "web", self.top / "web", ignore=shutil.ignore_patterns("__pycache__", "tests"))
+        write(self.top / "examples/README.md", "| `one.tal` | one example |\n")
+        for name in ("one.tal", "numbered.setup", "words.tal", "squeeze.tal", "number.tal", "numbered.script"):
+            write(self.top / "examples" / name, f"( {name} )\n")
+
     def fill_dist(self, program: Path = PROGRAM) -> None:
         """Puts the program and stand-ins for the others into dist/, with their manifest."""
         dist = self.top / "dist"
@@ -56,6 +63,7 @@ class Checkout(unittest.TestCase):
         for name in ("uxn-linux-x86_64", "uxn-linux-aarch64"):
             shutil.copy(program, dist / name)
         write(dist / "uxn.wasm", "no module\n")
+        write(dist / "uxn.html", "no page\n")
         shutil.copy(TOP / "dist" / "uxn.mjs", dist / "uxn.mjs")
         write(dist / "manifest.json", distribution.manifest_text(self.top, dist, IDENTITY))
 

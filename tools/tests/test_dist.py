@@ -1,16 +1,27 @@
 """tools/dist: what it makes, and that --check finds each change, by a toolchain of the tests."""
 from __future__ import annotations
 
+import base64
 import json
 import os
+import re
 import shutil
 import subprocess
+import sys
+import tempfile
 import unittest
+import zlib
 from pathlib import Path
 
 import fake_toolchain
 from making import distribution, machines
 from support import IDENTITY, TOP, Checkout, write
+
+
+def part_of_page(page: str, name: str) -> bytes:
+    """The bytes that the page carries under a name."""
+    found = re.search(rf'<script type="application/octet-stream" id="data-{name}">([^<]*)<', page)
+    return zlib.decompress(base64.b64decode(found[1]), -15) if found else b""
 
 
 class Dist(Checkout):
@@ -22,6 +33,7 @@ class Dist(Checkout):
         self.dist = self.top / "dist"
         self.dist.mkdir()
         shutil.copy(TOP / "dist/uxn.mjs", self.dist)
+        self.fill_page()
         self.build()
 
     def build(self) -> None:
@@ -61,6 +73,32 @@ class Makes(Dist):
         wasm = (self.dist / "uxn.wasm").read_text()
         self.assertTrue(arm.startswith("ld.lld") and wasm.startswith("wasm-ld"))
         self.assertTrue(os.access(self.dist / "uxn-linux-aarch64", os.X_OK))
+
+    def test_the_page_has_the_module_and_the_examples(self) -> None:
+        self.assert_made()
+        page = (self.dist / "uxn.html").read_text(encoding="utf-8")
+        self.assertEqual(part_of_page(page, "module"), (self.dist / "uxn.wasm").read_bytes())
+        listed = json.loads(part_of_page(page, "examples"))
+        self.assertEqual([(each["name"], each["about"]) for each in listed], [("numbered", "three machines in a line"), ("one", "one example")])
+
+    def test_the_page_alone(self) -> None:
+        self.assert_made()
+        first = self.files()
+        write(self.top / "examples/one.tal", "( another )\n")
+        done = self.tool("dist", "--page", PATH=self.path)
+        self.assertEqual((done.returncode, done.stdout, done.stderr), (0, "", ""))
+        made = self.files()
+        self.assertEqual({name for name in made if made[name] != first[name]}, {"uxn.html", "manifest.json"})
+        self.assertEqual(self.make("--check").stdout, "5 passed, 0 failed\n")
+
+    def test_the_page_alone_where_it_cannot_be_made(self) -> None:
+        self.assert_made()
+        first = self.files()
+        (self.top / "web/style.css").unlink()
+        done = self.tool("dist", "--page", PATH=self.path)
+        self.assertEqual((done.returncode, done.stdout, done.stderr.count("\n")), (1, "", 1), done.stderr)
+        self.assertTrue(done.stderr.startswith("tools/dist: the page is not made: web/build: "), done.stderr)
+        self.assertEqual(self.files(), first)
 
     def test_the_same_bytes_in_another_folder(self) -> None:
         self.assert_made()
@@ -120,7 +158,7 @@ class Refuses(Dist):
         self.assert_refused("the Rattle toolchain's command rt is not in PATH")
 
     def test_wrong_calls(self) -> None:
-        for words in ([], ["/no/program"], [str(self.program), "more"], ["--other", str(self.program)]):
+        for words in ([], ["/no/program"], [str(self.program), "more"], ["--other", str(self.program)], ["--page", str(self.program)]):
             done = self.tool("dist", *words, PATH=self.path)
             self.assertEqual((done.returncode, done.stdout, done.stderr.count("\n")), (2, "", 1), done.stderr)
 
@@ -139,12 +177,12 @@ class Checks(Dist):
     def test_what_is_as_it_was_made(self) -> None:
         before = self.files()
         done = self.make("--check")
-        self.assertEqual((done.returncode, done.stdout, done.stderr), (0, "4 passed, 0 failed\n", ""))
+        self.assertEqual((done.returncode, done.stdout, done.stderr), (0, "5 passed, 0 failed\n", ""))
         self.assertEqual(self.files(), before)
 
     def assert_found(self, name: str, how: str) -> None:
         done = self.make("--check")
-        lines = [f"FAILED dist/{name}: {how}", f"This puts it right: tools/dist {self.program}", "3 passed, 1 failed"]
+        lines = [f"FAILED dist/{name}: {how}", f"This puts it right: tools/dist {self.program}", "4 passed, 1 failed"]
         self.assertEqual((done.returncode, done.stdout.splitlines()), (1, lines))
 
     def test_a_byte_of_each_file(self) -> None:
@@ -175,11 +213,16 @@ class Checks(Dist):
         done = self.make("--check")
         self.assertTrue(done.stdout.startswith("FAILED dist/manifest.json: "), done.stdout)
 
+    def test_an_example_that_changed(self) -> None:
+        write(self.top / "examples/one.tal", "( another )\n")
+        done = self.make("--check")
+        self.assertEqual([line.partition(":")[0] for line in done.stdout.splitlines()[:2]], ["FAILED dist/uxn.html", "FAILED dist/manifest.json"])
+
     def test_sources_that_changed(self) -> None:
         write(self.top / "crates/side/src/lib.rt", "another\n")
         self.build()
         done = self.make("--check")
-        self.assertEqual((done.returncode, done.stdout.splitlines()[-1]), (1, "0 passed, 4 failed"))
+        self.assertEqual((done.returncode, done.stdout.splitlines()[-1]), (1, "0 passed, 5 failed"))
 
 
 class Modules(unittest.TestCase):
@@ -211,7 +254,15 @@ class Made(unittest.TestCase):
         for name, digest in manifest["files"].items():
             self.assertEqual(distribution.sum_of((TOP / "dist" / name).read_bytes()), digest, name)
         self.assertEqual(manifest["version"], (TOP / "VERSION").read_text().strip())
-        self.assertLess(sum(Path(TOP / "dist" / name).stat().st_size for name in manifest["files"]), 3_000_000)
+        self.assertLess(sum(Path(TOP / "dist" / name).stat().st_size for name in manifest["files"]), 4_000_000)
+
+    @unittest.skipUnless((TOP / "dist" / distribution.PAGE).exists(), "there is no dist/uxn.html")
+    def test_the_page_is_what_its_sources_give(self) -> None:
+        with tempfile.TemporaryDirectory() as folder:
+            made = Path(folder) / distribution.PAGE
+            subprocess.run([sys.executable, str(TOP / "web/build"), "--out", str(made)], check=True)
+            self.assertEqual(made.read_bytes(), (TOP / "dist" / distribution.PAGE).read_bytes(), "tools/dist --page makes it again")
+            self.assertLess(made.stat().st_size, 1_000_000)
 
 
 if __name__ == "__main__":

@@ -7,6 +7,7 @@ import { isSource } from './paths.js';
 
 /** @type {any} CodeMirror has no types here. */
 const { CodeMirror } = /** @type {any} */ (globalThis);
+const BREAKS = 'breaks';
 
 /**
  * The word at a place of a line: where it begins and ends.
@@ -24,7 +25,7 @@ export function wordAt(line, place) {
 export class Editor {
   /**
    * @param {HTMLElement} parent
-   * @param {{changed: () => void, run: () => void, define: (word: string) => void}} calls
+   * @param {{changed: () => void, run: () => void, define: (word: string) => void, breaks: () => void}} calls
    */
   constructor(parent, calls) {
     CodeMirror.defineMode('uxntal', () => uxntalMode);
@@ -38,6 +39,7 @@ export class Editor {
     this.calls = calls;
     this.view = CodeMirror(parent, {
       lineNumbers: true,
+      gutters: [BREAKS, 'CodeMirror-linenumbers'],
       matchBrackets: true,
       styleActiveLine: true,
       indentWithTabs: true,
@@ -48,7 +50,10 @@ export class Editor {
       screenReaderLabel: 'Source. Escape and then Tab leaves the editor.',
       extraKeys: this.keys(),
     });
+    /** @type {{document: any, line: any} | null} */
+    this.here = null;
     this.view.on('changes', () => calls.changed());
+    this.view.on('gutterClick', (/** @type {any} */ _, /** @type {number} */ line) => this.toggleBreak(line));
     this.view.on('blur', () => {
       this.leaves = false;
     });
@@ -65,6 +70,7 @@ export class Editor {
     return {
       'Ctrl-Enter': () => this.calls.run(),
       'Cmd-Enter': () => this.calls.run(),
+      F9: () => this.toggleBreak(this.view.getCursor().line),
       F12: () => this.calls.define(this.wordAtCursor()),
       Tab: leaveOr('defaultTab'),
       'Shift-Tab': leaveOr('indentLess'),
@@ -153,6 +159,54 @@ export class Editor {
     this.view.setCursor({ line, ch: place });
     this.view.scrollIntoView(null, 80);
     this.view.focus();
+  }
+
+  /**
+   * Sets a break at a line of the file that is shown, or takes it away.
+   * @param {number} line
+   */
+  toggleBreak(line) {
+    if (!isSource(this.path)) return;
+    const mark = document.createElement('span');
+    mark.className = 'break-mark';
+    mark.textContent = '\u25CF';
+    mark.title = 'Break';
+    const isSet = Boolean(this.view.lineInfo(line).gutterMarkers?.[BREAKS]);
+    this.view.setGutterMarker(line, BREAKS, isSet ? null : mark);
+    this.calls.breaks();
+  }
+
+  /**
+   * The lines with breaks, which go with their lines as one types.
+   * @returns {{path: string, line: number}[]}
+   */
+  lineBreaks() {
+    /** @type {{path: string, line: number}[]} */
+    const found = [];
+    for (const [path, each] of this.documents) {
+      each.eachLine((/** @type {any} */ line) => {
+        if (line.gutterMarkers?.[BREAKS]) found.push({ path, line: each.getLineNumber(line) });
+      });
+    }
+    return found;
+  }
+
+  /** @param {{path: string, line: number}} found */
+  dropLineBreak({ path, line }) {
+    this.documents.get(path)?.setGutterMarker(line, BREAKS, null);
+  }
+
+  /**
+   * Marks the line that the debugger is at; without one, none.
+   * @param {number | null} line  from 0, of the file that is shown
+   */
+  showHere(line) {
+    if (this.here) this.here.document.removeLineClass(this.here.line, 'background', 'here-line');
+    this.here = null;
+    if (line === null || line > this.view.lastLine()) return;
+    const shown = this.view.getDoc();
+    this.here = { document: shown, line: shown.addLineClass(line, 'background', 'here-line') };
+    this.view.scrollIntoView({ line, ch: 0 }, 80);
   }
 
   refresh() {

@@ -4,6 +4,8 @@ import { ask } from './ask.js';
 import { save, showChanges } from './changed.js';
 import { Checker } from './checker.js';
 import { Console } from './console.js';
+import { Debugger } from './debug.js';
+import { DebugView } from './debugview.js';
 import { definitionOf, scopeAt } from './definitions.js';
 import { Editor } from './editor.js';
 import { meaningOf, placeOfColumn } from './faults.js';
@@ -76,6 +78,7 @@ class Page {
       changed: () => this.changed(),
       run: () => this.run(),
       define: (word) => this.goToDefinition(word),
+      breaks: () => this.breaksChanged(),
     });
     this.film = new Film();
     this.sound = new Sound();
@@ -84,6 +87,13 @@ class Page {
     this.checker = new Checker(new Machine(source, module), () => this.sources(), (checked) => this.showChecked(checked));
     this.runner = new Runner(new Machine(source, module), { film: this.film, sound: this.sound, console: new Console(byId('console')) });
     this.runner.onState = () => this.showRunning();
+    this.debug = new DebugView(new Debugger(new Machine(source, module)), {
+      source: () => ({ project: this.project, files: this.sources().files }),
+      lineBreaks: () => this.editor.lineBreaks(),
+      dropLineBreak: (found) => this.editor.dropLineBreak(found),
+      showLine: (place) => this.showLine(place),
+      stopRun: () => this.runner.end(),
+    });
     this.live = new Live(byId('screen'), {
       show: (frame, picture) => this.film.showOther(frame, picture),
       stopped: (script, message) => this.liveStopped(script, message),
@@ -117,6 +127,7 @@ class Page {
     makeTabs(byId('tabs'), (tab) => this.showFile(tab.dataset.path ?? ''));
     makeTabs(byId('results'), (tab) => this.showResult(tab));
     document.addEventListener('keydown', (event) => {
+      if (!byId('debug').hidden && this.debug.key(event)) event.preventDefault();
       if (event.key !== 'Enter' || !(event.ctrlKey || event.metaKey) || event.defaultPrevented) return;
       event.preventDefault();
       this.run();
@@ -173,6 +184,7 @@ class Page {
     this.project = project;
     this.key = key;
     this.runner.clear();
+    this.debug.forget();
     showChanges(byId('files'), []);
     byId('report').textContent = '';
     this.editor.load(project.files);
@@ -227,6 +239,7 @@ class Page {
   changed() {
     if (this.isOpening) return;
     this.touch();
+    if (this.debug.view) this.debug.forget();
     this.checker.soon();
   }
 
@@ -290,7 +303,7 @@ class Page {
   /** @param {HTMLElement} tab */
   showResult(tab) {
     markTab(byId('results'), tab);
-    for (const name of ['console', 'report', 'files']) byId(name).hidden = tab.id !== `tab-${name}`;
+    for (const name of ['console', 'report', 'files', 'debug']) byId(name).hidden = tab.id !== `tab-${name}`;
   }
 
   /** @param {import('./checker.js').Checked} checked */
@@ -323,6 +336,21 @@ class Page {
     if (!found) return;
     if (found.path !== this.editor.path) this.showFile(found.path);
     this.editor.goTo(found.line, found.place);
+  }
+
+  /** Shows the debugger, if a break was set. */
+  breaksChanged() {
+    this.debug.showBreaks();
+    if (byId('debug').hidden && this.editor.lineBreaks().length) this.showResult(byId('tab-debug'));
+  }
+
+  /**
+   * Marks the line that the debugger is at.
+   * @param {import('./places.js').Word | null} place
+   */
+  showLine(place) {
+    if (place && place.path !== this.editor.path) this.showFile(place.path, false);
+    this.editor.showHere(place ? place.line : null);
   }
 
   async run(isShownAnew = true) {
