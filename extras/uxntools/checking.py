@@ -119,6 +119,11 @@ class Checker:
         with Writers(self.workspace.target, self.loaded.rom) as writers:
             return [miss.found(self, writers if at < MOST_WRITERS else None) for at, miss in enumerate(missed)]
 
+    def moments(self) -> list[int]:
+        """The moments at which assertions did not hold."""
+        missed = [miss for it in self.resolved for miss in self._miss(it) if miss.place]
+        return [self.timeline.vectors[miss.vector].end for miss in missed]
+
     def _miss(self, resolved: Resolved) -> Iterator[Miss]:
         """How an assertion misses, if it does."""
         event = events.before(self.timeline.data, resolved.assertion.line)

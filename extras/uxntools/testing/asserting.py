@@ -41,7 +41,7 @@ class Programs:
 def faults(test: Test, result: Result, programs: Programs) -> list[Fault]:
     """What is wrong by the assertions, the stacks and the budgets of a test."""
     asserted, wrong = assertions.read(comparing.script_bytes(test))
-    found = [Fault("script", f"{test.path('script')}:{it.line}: {it.why}", kind=ASSERTION) for it in wrong]
+    found = [Fault("script", f"{test.path('script')}:{it.line}: {it.why}", kind=ASSERTION, at=it.line) for it in wrong]
     rules = Rules(asserted, test.settings.strict, test.settings.budgets)
     if rules.is_empty or not result.is_done:
         return found
@@ -60,19 +60,20 @@ def _of_line(test: Test) -> Fault:
 
 def _checked(test: Test, result: Result, rules: Rules, workspace: Workspace, loaded: Loaded) -> list[Fault]:
     known, wrong = checking.known(loaded.program, rules.assertions)
-    found = [Fault("script", f"{test.path('script')}:{it.line}: {it.text}", kind=ASSERTION) for it in wrong]
+    name = test.path("script")
+    found = [Fault("script", f"{name}:{it.line}: {it.text}", kind=ASSERTION, at=it.line or 0) for it in wrong]
     rules = Rules(known, rules.is_strict, rules.budgets)
     if rules.is_empty:
         return found
-    checker = Checker(workspace, loaded, result.report, rules, test.path("script"))
+    checker = Checker(workspace, loaded, result.report, rules, name)
     missed = checker.misses()
     if missed:
-        lines = [f"{test.path('script')}:{it.line}: {it.text}" for it in missed[:MOST]]
+        lines = [f"{name}:{it.line}: {it.text}" for it in missed[:MOST]]
         lines += [f".. and {len(missed) - MOST} more"] if len(missed) > MOST else []
         head = f"{len(missed)} of {len(known)} assertions missed"
-        found.append(Fault("script", head, kind=ASSERTION, more=tuple(lines)))
-    found += [Fault("stack", it.text, kind=ASSERTION) for it in checker.stacks()]
-    return found + [Fault("budget", it.text, kind=ASSERTION) for it in checker.over_budget()]
+        found.append(Fault("script", head, kind=ASSERTION, more=tuple(lines), at=missed[0].line or 0))
+    found += [Fault("stack", it.text, kind=ASSERTION, at=it.line or 0) for it in checker.stacks()]
+    return found + [Fault("budget", it.text, kind=ASSERTION, at=it.line or 0) for it in checker.over_budget()]
 
 
 def cuts(test: Test, result: Result, programs: Programs) -> list[str]:

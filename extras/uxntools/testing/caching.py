@@ -17,7 +17,8 @@ from typing import Any
 
 from uxntools import files, includes, source
 from uxntools.testing.discovery import WANTED, Test
-from uxntools.testing.running import KEPT, Result, kept_folder
+from uxntools.testing.keeping import KEPT, kept_folder
+from uxntools.testing.running import Result
 
 FORMAT = 2
 # How long a file has to be at rest, in nanoseconds, and how many bytes of a result are kept.

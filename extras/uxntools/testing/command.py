@@ -7,13 +7,15 @@ import re
 import signal
 import sys
 import time
-from collections.abc import Sequence
+from collections.abc import Callable, Sequence
 from dataclasses import replace
 
 from uxntools import cli, files
-from uxntools.testing import comparing, showing, updating, warning
+from uxntools.testing import comparing, opening, showing, updating, warning
 from uxntools.testing.discovery import Test, discover
-from uxntools.testing.reporting import Reporter, TapReporter, junit
+from uxntools.testing.formats import GithubReporter, TapReporter, junit
+from uxntools.testing.page import Page
+from uxntools.testing.reporting import Reporter, failures
 from uxntools.testing.session import Options, Outcome, Session
 from uxntools.testing.watching import Watch
 
@@ -25,6 +27,15 @@ files .root/, and compares the results with .out, .err, .status, .ppm, .samples,
 The program is the only source beside the folder tests, or the one that uxn-test.toml names. Without a FOLDER or NAME
 the tests of every folder tests are run, in this folder and at any depth beneath it; a copy of the folder extras, with
 these tools, is skipped. The status is 1 where a test failed or there are none."""
+
+
+# How long a test may run, in seconds, where no option says another number.
+SECONDS = 60
+REPORTERS: dict[str, Callable[[int, bool], Reporter]] = {
+    "text": Reporter,
+    "tap": lambda total, _: TapReporter(total),
+    "github": lambda total, _: GithubReporter(total),
+}
 
 
 def shard(text: str) -> tuple[int, int]:
@@ -47,7 +58,7 @@ def parser() -> cli.Parser:
         "names",
         metavar="FOLDER|NAME",
         nargs="*",
-        help="folders with tests, tests, or patterns of tests (all beneath this folder)",
+        help="folders with tests, tests, tables, programs, or patterns of tests (all beneath this folder)",
     )
     made.add_argument(
         "-j",
@@ -59,7 +70,10 @@ def parser() -> cli.Parser:
     made.add_argument("-v", "--verbose", action="store_true", help="name each test that passes too")
     made.add_argument("-l", "--list", action="store_true", help="only name the tests")
     made.add_argument("--fresh", action="store_true", help="run unchanged tests too")
-    made.add_argument("--seconds", type=cli.number(1, 1000000), help="a test that runs longer fails")
+    made.add_argument(
+        "--seconds", type=cli.number(1, 1000000), default=SECONDS, help=f"a test that runs longer fails ({SECONDS})"
+    )
+    add_choice(made)
     made.add_argument(
         "--strict", action="store_true", help="a stack that is not empty at the end of a vector fails the test"
     )
@@ -71,35 +85,73 @@ def parser() -> cli.Parser:
         default=frozenset(),
         help=f"of --update: record these too, of tests that are named: {', '.join(comparing.ALLOWED)}",
     )
-    made.add_argument(
-        "--shard", metavar="K/N", type=shard, help="run each N-th test, from the K-th on (a shard without tests passes)"
-    )
     made.add_argument("--watch", action="store_true", help="run again what a changed file concerns, until Ctrl-C")
-    made.add_argument("--tap", action="store_true", help="say it in the Test Anything Protocol")
+    made.add_argument("--debug", action="store_true", help="open uxn-debug on the first failed test, at its first miss")
+    made.add_argument("--durations", metavar="N", type=cli.number(1, 1000000), default=0, help="list the N longest runs")
+    made.add_argument("--tap", action="store_const", dest="format", const="tap", default="text", help="the same as --format tap")
+    made.add_argument(
+        "--format",
+        choices=REPORTERS,
+        default="text",
+        help="text, the Test Anything Protocol, or annotations for GitHub (text)",
+    )
     made.add_argument("--junit", metavar="FILE", help="write the outcomes as JUnit's XML too")
+    made.add_argument("--html", metavar="FILE", help="write the outcomes as one page too")
+    made.add_argument("--cover", action="store_true", help="of --html: show which lines the tests ran")
     return made
+
+
+def add_choice(made: cli.Parser) -> None:
+    """The options that choose among the tests."""
+    group = made.add_argument_group("which of them")
+    group.add_argument("--tag", metavar="TAG", action="append", default=[], help="those with this tag of uxn-test.toml")
+    group.add_argument("--no-tag", metavar="TAG", action="append", default=[], help="those without this tag")
+    group.add_argument("--last-failed", action="store_true", help="those that failed when they were run last")
+    group.add_argument("--max-failures", metavar="N", type=cli.number(1, 1000000), help="end after N failed tests")
+    group.add_argument(
+        "--shard", metavar="K/N", type=shard, help="each N-th test, from the K-th on (a shard without tests passes)"
+    )
 
 
 def check(given: argparse.Namespace, wrong: cli.Parser) -> None:
     """Refuses options that do not go together."""
+    has_format = given.format != "text" or given.junit or given.html
+    if given.cover and not given.html:
+        wrong.error("--cover goes with --html")
     if given.allow and not given.update:
         wrong.error("--allow goes with --update")
     if given.allow and not given.names:
         wrong.error("--allow needs the names of the tests that it is for")
-    if given.watch and (given.update or given.tap or given.junit or given.list):
+    if given.watch and (given.update or has_format or given.list or given.debug):
         wrong.error("--watch goes alone")
-    if given.update and (given.tap or given.junit):
-        wrong.error("--update goes without --tap and --junit")
+    if given.update and has_format:
+        wrong.error("--update goes without --format, --junit and --html")
+    if given.debug and (given.update or has_format):
+        wrong.error("--debug goes without --update, --format, --junit and --html")
 
 
 def chosen_tests(given: argparse.Namespace) -> list[Test]:
     """The tests of the command line; none is a failure, but an empty shard is not."""
-    tests = discover(given.names)
+    tests = [test for test in discover(given.names) if has_tags(test, given.tag, given.no_tag)]
+    if not tests:
+        raise cli.Failure("no test has these tags")
+    if given.last_failed:
+        tests = [test for test in tests if has_failed(test)]
     if given.shard:
         tests = tests[given.shard[0] - 1 :: given.shard[1]]
     for test in tests:
         _ = test.program
     return [replace(test, settings=replace(test.settings, strict=True)) for test in tests] if given.strict else tests
+
+
+def has_tags(test: Test, wanted: Sequence[str], unwanted: Sequence[str]) -> bool:
+    tags = set(test.settings.tags)
+    return tags.issuperset(wanted) and tags.isdisjoint(unwanted)
+
+
+def has_failed(test: Test) -> bool:
+    """Whether a test failed when it was run last: what came is kept then."""
+    return os.path.isdir(os.path.join(test.folder, showing.folder_of(test, "failed")))
 
 
 def warn(lines: Sequence[str]) -> None:
@@ -108,12 +160,15 @@ def warn(lines: Sequence[str]) -> None:
         print(cli.shown(f"uxn-test: {line}"), file=sys.stderr, flush=True)
 
 
-def run_all(tests: Sequence[Test], session: Session, reporter: Reporter) -> int:
+def run_all(tests: Sequence[Test], session: Session, reporter: Reporter, most: int | None = None) -> int:
+    """Runs tests, up to so many failures."""
     reporter.progress(session.finished)
     try:
         for outcome in session.outcomes(tests, lambda: reporter.progress(session.finished)):
             reporter.add(outcome)
             reporter.progress(session.finished)
+            if most is not None and failures(reporter.outcomes) >= most:
+                break
     except KeyboardInterrupt:
         reporter.clear()
         raise
@@ -150,7 +205,7 @@ def watch(given: argparse.Namespace, session: Session) -> int:
     concerned: list[Test] = tests
     while True:
         state = Watch(tests, session)
-        run_all(concerned, session, Reporter(len(concerned), True, sys.stdout))
+        run_all(concerned, session, Reporter(len(concerned), given.verbose, sys.stdout))
         changed = state.wait()
         try:
             session.look_anew()
@@ -178,8 +233,15 @@ def main() -> int:
     warn(warning.unknown_files(tests) + ([] if given.update else warning.pictures(tests)))
     if given.update:
         return update(tests, session, given.allow)
-    reporter = TapReporter(len(tests), sys.stdout) if given.tap else Reporter(len(tests), given.verbose, sys.stdout)
-    status = run_all(tests, session, reporter)
+    reporter = REPORTERS[given.format](len(tests), given.verbose)
+    reporter.durations = given.durations
+    status = run_all(tests, session, reporter, given.max_failures)
     if given.junit:
         write_junit(given.junit, reporter.outcomes, start)
+    if given.html:
+        made = Page(reporter.outcomes, time.monotonic() - start, given.cover).made()
+        files.write(given.html, made.encode(errors="replace"))
+    failed = next((it for it in reporter.outcomes if not it.has_passed), None)
+    if given.debug and failed:
+        opening.debug(failed.test, failed.result)
     return status

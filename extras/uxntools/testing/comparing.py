@@ -16,14 +16,16 @@ ALLOWED = (REFUSAL, EARLY, CUT, MISS)
 # An expect after the end of the run: nothing records that.
 UNREACHED = "unreached"
 NO_CALL = "ended like one that a shell cannot make,"
+# A source is refused with this status.
+REFUSED_SOURCE = 131
 # 200 is of a launcher that has no program to run.
 REFUSED_STATUSES = {*program.REFUSED, 200}
 
 
 @dataclass(frozen=True)
 class Fault:
-    """Why a test fails: the part that is wrong, a line that says how, lines that say more, and, where bytes differ,
-    those that are wanted and those that came."""
+    """Why a test fails: the part that is wrong, a line that says how, lines that say more, where bytes differ those
+    that are wanted and those that came, and the line of the script that it is about."""
 
     part: str
     line: str
@@ -31,6 +33,7 @@ class Fault:
     got: bytes | None = None
     kind: str = ""
     more: tuple[str, ...] = ()
+    at: int = 0
 
 
 def wanted_bytes(test: Test, part: str) -> bytes:

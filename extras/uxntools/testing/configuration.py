@@ -27,6 +27,9 @@ class Settings:
     cuts: int | None = None
     misses: int = 0
     strict: bool = False
+    tags: tuple[str, ...] = ()
+    skip: str | None = None
+    fails: str | None = None
     reset: int | None = None
     console: int | None = None
     frame: int | None = None
@@ -49,6 +52,7 @@ KEYS = {it.name for it in fields(Settings)}
 TEXTS = {"program", "root", "symbols"}
 COUNTS = {"budget": 1, "cuts": 0, "misses": 0, **dict.fromkeys(KINDS, 1)}
 SWITCHES = {"rom", "strict"}
+REASONS = {"skip", "fails"}
 
 
 @dataclass(frozen=True)
@@ -82,6 +86,10 @@ def _checked(table: object, where: str) -> dict[str, object]:
 def _fault(name: str, value: object) -> str | None:
     if name not in KEYS:
         return f"there is no such setting; there are {', '.join(sorted(KEYS))}"
+    if name in REASONS and not (isinstance(value, str) and value.strip()):
+        return "it has to be a reason"
+    if name == "tags" and not (isinstance(value, list) and all(isinstance(it, str) and it for it in value)):
+        return "it has to be a list of texts"
     if name in TEXTS and not (isinstance(value, str) and value):
         return "it has to be a text"
     if name in TEXTS and not is_beneath(str(value)):

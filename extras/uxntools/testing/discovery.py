@@ -8,13 +8,13 @@ from fnmatch import fnmatchcase
 from functools import cached_property
 
 from uxntools.cli import Failure
-from uxntools.testing import configuration
+from uxntools.testing import configuration, tables
 from uxntools.testing.configuration import Configuration, Settings
 
 # What a test is made of: what starts it, what is wanted of it, and the folder of its files.
 STARTS = ("script", "setup", "commands")
 WANTED = ("out", "err", "status", "ppm", "samples", "report", "log", "after")
-PARTS = frozenset((*STARTS, *WANTED, "root"))
+PARTS = frozenset((*STARTS, *WANTED, "root", "table"))
 FOLDERS = ("root", "after")
 # What the folder of these tools has, wherever a copy of it lies: its own tests are none of the user's.
 OF_TOOLS = os.path.join("uxntools", "testing", "discovery.py")
@@ -25,7 +25,7 @@ MOST_DEPTH = 64
 @dataclass(frozen=True)
 class Test:
     """A test: its name as the user writes it, the folder of its calls, and the path of its files in that folder
-    without their endings."""
+    without their endings. Of a row of a table also where the row stands."""
 
     name: str
     folder: str
@@ -33,6 +33,7 @@ class Test:
     parts: frozenset[str]
     settings: Settings
     is_folder: bool = False
+    row: str = ""
 
     def path(self, part: str) -> str:
         """The path of a part, relative to the folder of the calls."""
@@ -250,10 +251,24 @@ def _tests_of(project: Project) -> Iterator[Test]:
                 settings[above] = project.configuration.of_folder(above)
             own = project.configuration.tests.get(stem)
             merged = settings[above].merged(own) if own else settings[above]
-            yield Test(
-                os.path.normpath(os.path.join(project.shown, stem)), project.folder, stem, parts, merged, is_folder
-            )
+            name = os.path.normpath(os.path.join(project.shown, stem))
+            if "table" in parts and not is_folder:
+                yield from _rows(project, stem, name, merged, parts)
+            else:
+                yield Test(name, project.folder, stem, parts, merged, is_folder)
     _refuse_unknown(project, stems)
+
+
+def _rows(project: Project, stem: str, name: str, settings: Settings, parts: frozenset[str]) -> Iterator[Test]:
+    """The tests of a table; `.root` beside it is that of each row."""
+    shown = f"{name}.table"
+    if parts - {"table", "root"}:
+        raise Failure(f"{shown}: beside a table is nothing but its files .root", 2)
+    if "root" in parts:
+        settings = replace(settings, root=f"{stem}.root")
+    for row, path in tables.made(project.folder, stem, shown):
+        row_parts = frozenset(row.parts)
+        yield Test(f"{name}:{row.name}", project.folder, path, row_parts, settings, row=f"{shown}:{row.line}")
 
 
 def _refuse_unknown(project: Project, stems: set[str]) -> None:
@@ -280,22 +295,34 @@ def _tests_beneath(folder: str) -> list[Test]:
         inner = (
             test
             for test in _tests_of(above)
-            if os.path.join(test.folder, test.stem, "").startswith(os.path.join(path, ""))
+            if _is_beneath(test, path)
         )
         found = {**{os.path.join(test.folder, test.stem): _renamed(test) for test in inner}, **found}
     return list(found.values())
 
 
+def _is_beneath(test: Test, folder: str) -> bool:
+    """Whether a test, or the table that it is a row of, lies beneath a folder."""
+    stem = os.path.join(test.folder, test.stem) if not test.row else os.path.abspath(test.name)
+    return os.path.join(stem, "").startswith(os.path.join(folder, ""))
+
+
 def _renamed(test: Test) -> Test:
     """A test that was found from a folder above, with its name as seen from the current one."""
+    if test.row:
+        return replace(test, name=os.path.relpath(test.name), row=os.path.relpath(test.row))
     return replace(test, name=os.path.relpath(os.path.join(test.folder, test.stem)))
 
 
 def _names(test: Test, name: str) -> bool:
     """Whether a name of the command line means a test: its path, that of one of its files, its last part, a folder
-    above it, or a pattern."""
+    above it, the table that it is a row of, its program, or a pattern."""
     path = os.path.normpath(name)
     last = os.path.basename(test.name)
+    if test.row and _names_row(test, name.removesuffix(".table"), last):
+        return True
+    if name.endswith((".tal", ".rom", ".setup")) and _is_program(test, path):
+        return True
     stem, dot, part = path.rpartition(".")
     if path in (test.name, last) or test.name.startswith(path + "/"):
         return True
@@ -306,6 +333,19 @@ def _names(test: Test, name: str) -> bool:
         or fnmatchcase(test.name, name)
         or fnmatchcase(last, name)
     )
+
+
+def _names_row(test: Test, name: str, last: str) -> bool:
+    """Whether a name means a row: by its table or by its own name."""
+    table, _, row = last.rpartition(":")
+    return name in (test.name.rpartition(":")[0], table, row)
+
+
+def _is_program(test: Test, path: str) -> bool:
+    """Whether a path is that of a test's program."""
+    if test.settings.program is None and not test.has("setup"):
+        return False
+    return os.path.realpath(os.path.join(test.folder, test.program)) == os.path.realpath(path)
 
 
 def discover(names: Sequence[str] = ()) -> list[Test]:

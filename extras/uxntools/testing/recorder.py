@@ -13,7 +13,8 @@ from uxntools.cli import Failure
 from uxntools.recording import Recorder, Session, Wrong
 from uxntools.testing import comparing, configuration, updating, warning
 from uxntools.testing.discovery import Test, discover
-from uxntools.testing.running import kept_folder, run
+from uxntools.testing.keeping import kept_folder
+from uxntools.testing.running import run
 
 DESCRIPTION = """Records a session at the terminal as a test: uxn-record game.tal --to tests/win
 

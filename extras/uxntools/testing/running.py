@@ -2,7 +2,6 @@
 from __future__ import annotations
 
 import os
-import stat
 import subprocess
 import threading
 from collections.abc import Iterator, Mapping
@@ -13,9 +12,8 @@ from uxntools import files, program, report, source
 from uxntools.cli import Failure, shown
 from uxntools.target import Target
 from uxntools.testing.discovery import Test
+from uxntools.testing.keeping import kept_folder
 
-# The folder of a project in which runs write, and results and failed tests are kept.
-KEPT = ".uxn-test"
 # Statuses of a program that a shell also gives for a call that could not be made.
 NOT_DONE = {126, 127}
 # How many signs of a refusal are shown.
@@ -157,19 +155,6 @@ def usual_outputs(test: Test) -> frozenset[str]:
     """The outputs that a test is run with: the report, which tells of cuts and misses, and those that are wanted of
     it."""
     return frozenset({"report"} | {part for part in ("ppm", "samples") if test.has(part)})
-
-
-def kept_folder(folder: str) -> str:
-    """The folder of a project in which all of this is written; it tells git to leave it alone."""
-    path = os.path.join(folder, KEPT)
-    try:
-        if stat.S_ISDIR(os.lstat(path).st_mode):
-            return path
-    except FileNotFoundError:
-        pass
-    files.make_folder(KEPT, folder)
-    files.write(os.path.join(KEPT, ".gitignore"), b"*\n", folder)
-    return path
 
 
 @contextmanager

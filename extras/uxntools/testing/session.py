@@ -1,6 +1,7 @@
 """A session of tests: which of them need a run, the runs side by side, and the outcome of each in order."""
 from __future__ import annotations
 
+import re
 import time
 from collections.abc import Callable, Iterator, Sequence
 from concurrent.futures import Future, ThreadPoolExecutor
@@ -13,13 +14,14 @@ from uxntools.testing import asserting, comparing, running, showing
 from uxntools.testing.caching import Keys, Store
 from uxntools.testing.comparing import Fault
 from uxntools.testing.discovery import Test
+from uxntools.testing.keeping import kept_folder
 from uxntools.testing.running import Result
 
 
 @dataclass
 class Outcome:
-    """How a test went: its faults as they are shown, the folder of what is kept of it, and whether a kept result
-    answered."""
+    """How a test went: its faults as they are shown, the folder of what is kept of it, whether a kept result answered,
+    and whether it was not run at all or failed as expected."""
 
     test: Test
     result: Result | None = None
@@ -27,10 +29,29 @@ class Outcome:
     lines: list[str] = field(default_factory=list)
     kept: str = ""
     is_old: bool = False
+    is_skipped: bool = False
+    is_expected: bool = False
 
     @property
     def has_passed(self) -> bool:
         return not self.faults
+
+    @property
+    def refused(self) -> str:
+        """The line with which the source was refused, where that is all that is wrong."""
+        is_refused = self.result is not None and self.result.status == comparing.REFUSED_SOURCE
+        is_all = len(self.faults) == 1 and self.faults[0].kind == comparing.REFUSAL
+        return self.result.line if self.result and is_refused and is_all else ""
+
+    @property
+    def place(self) -> tuple[str, int]:
+        """The file and the line that a failure is shown at."""
+        file, _, line = self.test.row.rpartition(":")
+        if file:
+            return file, int(line)
+        stem = self.test.name + ("/" if self.test.is_folder else ".")
+        part = next((part for part in ("script", "commands", "setup", "out") if self.test.has(part)), "out")
+        return f"{stem}{part}", next((fault.at for fault in self.faults if fault.at), 1)
 
     @property
     def seconds(self) -> float:
@@ -102,8 +123,11 @@ class Session:
 
     def _begin(self, test: Test, pool: ThreadPoolExecutor) -> tuple[Outcome | Future[Outcome], bytes, bytes]:
         """The outcome of a test that a kept result answers, or the future one of its run."""
+        if test.settings.skip is not None:
+            self.finished += 1
+            return Outcome(test, is_skipped=True), b"", b""
         outputs = running.usual_outputs(test)
-        if not self.keeps:
+        if not self.keeps or test.settings.fails is not None:
             return self._later(pool, test, None), b"", b""
         try:
             keys = self.keys_of(test)
@@ -127,7 +151,16 @@ class Session:
         self.finished += 1
 
     def _outcome(self, test: Test, old: Result | None) -> Outcome:
-        """Runs a test, unless its result is known, and compares."""
+        """Runs a test, unless its result is known, and compares. Of one that is expected to fail a failure is none."""
+        outcome = self._compared(test, old)
+        why = test.settings.fails
+        if why is None:
+            return outcome
+        if outcome.has_passed:
+            return self._failed(test, outcome.result, [Fault("test", f"it passes, and is expected to fail: {why}")])
+        return Outcome(test, outcome.result, is_expected=True)
+
+    def _compared(self, test: Test, old: Result | None) -> Outcome:
         try:
             result = old or self.result(test)
             found = self.faults(test, result)
@@ -157,12 +190,12 @@ class Session:
         for fault in found:
             one = showing.show(fault)
             if fault.kind == comparing.MISS:
-                one.lines += ["  " + line for line in misses.lines_of_test(test, running.kept_folder(test.folder))]
+                one.lines += ["  " + line for line in misses.lines_of_test(test, kept_folder(test.folder))]
             if fault.kind == comparing.CUT and result:
                 one.lines += ["  " + line for line in asserting.cuts(test, result, self.programs)]
             shown.append(one)
         kept = showing.keep(test, result, shown)
-        return Outcome(test, result, found, [line for one in shown for line in one.lines], kept)
+        return Outcome(test, result, found, [_at_row(test, line) for one in shown for line in one.lines], kept)
 
     def _keep(self, outcome: Outcome, key: bytes, wanted: bytes) -> None:
         """Keeps a result that depends on the files alone: not one that ended early, and not one of a call that was
@@ -175,6 +208,11 @@ class Session:
         is_result = result.is_done or result.status in comparing.REFUSED_STATUSES
         if is_result and self.keys_of(outcome.test).are_as_read(outcome.test):
             self.stores[outcome.test.folder].keep(key, result, wanted if outcome.has_passed else None)
+
+
+def _at_row(test: Test, line: str) -> str:
+    """A line with the place of a row of a table where it names a file that was made of it."""
+    return re.sub(re.escape(test.stem) + r"\.\w+(:\d+)?", test.row, line) if test.row else line
 
 
 def _is_script(path: str) -> bool:

@@ -11,7 +11,9 @@ from uxntools import files, pictures, samples
 from uxntools.pictures import Picture
 from uxntools.testing.comparing import Fault
 from uxntools.testing.discovery import Test
-from uxntools.testing.running import KEPT, Result
+from uxntools.testing.keeping import KEPT
+from uxntools.testing.running import Result
+from uxntools.testing.tables import TABLES
 
 # How many lines, pictures and places are shown; all else is in the files that are kept.
 LINES = 40
@@ -226,7 +228,7 @@ def show(fault: Fault) -> Shown:
 def folder_of(test: Test, kind: str) -> str:
     """The folder in which what came of a test is kept, from its project's: of one that failed, or of what was
     recorded."""
-    return os.path.join(KEPT, kind, test.stem.replace("/", "."))
+    return os.path.join(KEPT, kind, test.stem.removeprefix(f"{TABLES}/").replace("/", "."))
 
 
 def keep(test: Test, result: Result | None, shown: list[Shown], kind: str = "failed") -> str:

@@ -89,6 +89,9 @@ def recording(test: Test, result: Result, allowed: frozenset[str], found: list[F
     """What is to be recorded of a result with these faults, shown beside what was wanted before. A refusal, an early
     end, a cut or a miss is recorded only where it is allowed."""
     made = Recording()
+    if test.row:
+        made.refused = [f"it is a row of a table: write what is wanted at {test.row}"]
+        return made
     kinds = _kinds(found)
     made.refused = [_refusal(kind, line) for kind, line in kinds.items() if kind not in allowed]
     if made.refused:

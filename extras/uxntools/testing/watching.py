@@ -26,6 +26,8 @@ def _files_of(test: Test, session: Session) -> set[str]:
     """The files that a test depends on: its program with includes, its parts, the files beneath its folders, and
     `uxn-test.toml`."""
     found = {os.path.join(test.folder, configuration.NAME)}
+    if test.row:
+        found.add(os.path.abspath(test.row.rpartition(":")[0]))
     for path in session.keys_of(test).files(test) + ([os.path.join(test.folder, test.root)] if test.root else []):
         found.add(path)
         for folder, _, names in os.walk(path) if os.path.isdir(path) else ():
