@@ -6,6 +6,7 @@ import signal
 from dataclasses import dataclass
 
 from uxntools import files, program, report, script
+from uxntools.facts import REFUSED
 from uxntools.testing.configuration import NAME
 from uxntools.testing.discovery import WANTED, Test
 from uxntools.testing.running import Result
@@ -17,7 +18,7 @@ ALLOWED = (REFUSAL, EARLY, CUT, MISS)
 UNREACHED = "unreached"
 NO_CALL = "ended like one that a shell cannot make,"
 # 200 is of a launcher that has no program to run.
-REFUSED_STATUSES = {*program.REFUSED, 200}
+REFUSED_STATUSES = {*REFUSED, 200}
 
 
 @dataclass(frozen=True)
