@@ -3,12 +3,18 @@ compared with. It is slow, and knows nothing of how the program goes about it.""
 import re
 import typing
 
-RUNES = b",_.-;=!?"
+# facts: words
+RUNES = b',_.-;=!?'
+RESERVED = b'|$#@&,_.-;=!?"%~()[]{}/'
+OPCODES = (
+    b"LIT", b"INC", b"POP", b"NIP", b"SWP", b"ROT", b"DUP", b"OVR", b"EQU", b"NEQ", b"GTH",
+    b"LTH", b"JMP", b"JCN", b"JSR", b"STH", b"LDZ", b"STZ", b"LDR", b"STR", b"LDA", b"STA",
+    b"DEI", b"DEO", b"ADD", b"SUB", b"MUL", b"DIV", b"AND", b"ORA", b"EOR", b"SFT",
+)
+# facts end
 SIZES = dict(zip(RUNES, (2, 1, 2, 1, 3, 2, 3, 3)))
 CALL = 0x60
 FIRST = {ord(","): 0x80, ord("."): 0x80, ord(";"): 0xa0, ord("!"): 0x40, ord("?"): 0x20}
-OPCODES = ("LIT INC POP NIP SWP ROT DUP OVR EQU NEQ GTH LTH JMP JCN JSR STH LDZ STZ LDR STR LDA STA DEI DEO ADD SUB MUL DIV AND ORA EOR "
-           "SFT").encode().split()
 BARE = {b"BRK": 0, b"JCI": 0x20, b"JMI": 0x40, b"JSI": 0x60}
 MODES = {ord("2"): 0x20, ord("r"): 0x40, ord("k"): 0x80}
 KINDS = ("OpenComment LongWord StrayParen BadNumber BadName NoName IncludeHere LongSource MacroTwice MacroBody MacroDeep ManyWords StrayBrace "
@@ -80,7 +86,7 @@ def digits(text, least, most):
 def name_faults(name):
     if not name:
         return ["NoName"]
-    is_bad = name[0] in b"|$#@&,_.-;=!?\"%~()[]{}/" or opcode(name) is not None or digits(name, 2, 2) or digits(name, 4, 4)
+    is_bad = name[0] in RESERVED or opcode(name) is not None or digits(name, 2, 2) or digits(name, 4, 4)
     return ["BadName"] * is_bad
 
 

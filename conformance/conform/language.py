@@ -5,10 +5,9 @@ import itertools
 from collections.abc import Iterable, Iterator
 
 from conform.drafts import Draft
-from conform.instructions import IMMEDIATE, NAMES, name_of
+from conform.instructions import IMMEDIATE, NAMES, RUNES, SIGNS, name_of
 from conform.tests import Tree
 
-SIGNS = '|$#@&,_.-;=!?"%~()[]{}/'
 SIGN_NAMES = dict(
     zip(
         SIGNS,
@@ -16,7 +15,6 @@ SIGN_NAMES = dict(
         "open-parenthesis close-parenthesis open-bracket close-bracket open-brace close-brace slash".split(),
     )
 )
-RUNES = ",_.-;=!?"
 # What rests on limits, which the references leave.
 OF_PROFILE = ("text-of-254-bytes", "macros-300", "labels-1000", "lambda-deep")
 

@@ -4,14 +4,12 @@ from __future__ import annotations
 import random
 from dataclasses import dataclass, field, replace
 
-from conform.instructions import NAMES, name_of
+from conform.instructions import NAMES, RUNES, SIGNS, name_of
 
 LABELS = ("main", "draw", "on-key", "a-b", "loop")
 SUBLABELS = ("next", "end")
 # Labels of more than one part, with where a sublabel after them goes.
 DEEP = ("main/inner", "draw/a/b", "loop//c", "a-b/", "x/y/z/w")
-RUNES = ",_.-;=!?"
-SIGNS = '|$#@&,_.-;=!?"%~()[]{}/'
 BLANKS = "\n\n\n    \t\t\r\v\f\x01\x1f\x00"
 # Relative bytes that just reach, and that just do not.
 FARTHEST = (

@@ -6,6 +6,7 @@ from collections.abc import Callable, Iterator
 from dataclasses import dataclass
 
 from conform.differences import Got
+from conform.instructions import RUNES
 
 # What `uxn` says of a fault.
 FAULT = re.compile(r"source (?:(?P<path>\S+) )?(?P<line>\d+):(?P<column>\d+): (?P<kind>\w+): (?P<word>[^\n]*)\n", re.S)
@@ -40,7 +41,7 @@ def place_of(found: re.Match[str], files: Files, source: str) -> Place | None:
 
 def names(word: bytes) -> Iterator[bytes]:
     """Definitions that may give a reference its label."""
-    name = word.lstrip(b",_.-;=!?")
+    name = word.lstrip(RUNES.encode())
     yield b"@" + name
     yield b"&" + name.lstrip(b"&/")
     scope, _, rest = name.partition(b"/")

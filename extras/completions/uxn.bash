@@ -9,11 +9,24 @@ _uxn_reply() {
     done <<<"$(compgen "$@")"
 }
 
+# facts: words
+_uxn_commands='play debug asm dis gen line'
+
+_uxn_options_of() {
+    case $1 in
+    play) echo '--rom --budget --script --root --frames --samples --report' ;;
+    debug) echo '--commands --log --symbols --rom --budget --script --root --frames --samples --report' ;;
+    asm) echo '--out --symbols --listing' ;;
+    dis) echo '--symbols' ;;
+    esac
+}
+# facts end
+
 # The words that complete those of `uxn` behind the place $1, where its command stands.
 _uxn_words() {
-    local run='--rom --script --root --frames --samples --report --budget' word=${COMP_WORDS[COMP_CWORD]} words
+    local word=${COMP_WORDS[COMP_CWORD]}
     if [[ $COMP_CWORD -eq $1 ]]; then
-        _uxn_reply -W 'play debug asm dis gen line' -- "$word"
+        _uxn_reply -W "$_uxn_commands" -- "$word"
         return
     fi
     case ${COMP_WORDS[COMP_CWORD - 1]} in
@@ -23,15 +36,8 @@ _uxn_words() {
         return
         ;;
     esac
-    case ${COMP_WORDS[$1]} in
-    play) words=$run ;;
-    debug) words="--commands --log --symbols $run" ;;
-    asm) words='--out --symbols --listing' ;;
-    dis) words='--symbols' ;;
-    line) words= ;;
-    *) return ;;
-    esac
-    _uxn_options_or_files "$words"
+    [[ ${COMP_WORDS[$1]} == gen || " $_uxn_commands " != *" ${COMP_WORDS[$1]} "* ]] ||
+        _uxn_options_or_files "$(_uxn_options_of "${COMP_WORDS[$1]}")"
 }
 
 _uxn_options_or_files() {

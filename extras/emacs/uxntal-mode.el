@@ -23,12 +23,23 @@ Where `indent-tabs-mode' is set a level is a tab."
   :safe #'integerp
   :group 'uxntal)
 
+;; facts: words
+(defconst uxntal-runes ",_.;=!?-"
+  "The runes of references, for a set of a regular expression.")
+
+(defconst uxntal-plain-opcodes
+  '("BRK" "JCI" "JMI" "JSI")
+  "The instructions that take no modes.")
+
+(defconst uxntal-moded-opcodes
+  '("LIT" "INC" "POP" "NIP" "SWP" "ROT" "DUP" "OVR" "EQU" "NEQ" "GTH" "LTH"
+    "JMP" "JCN" "JSR" "STH" "LDZ" "STZ" "LDR" "STR" "LDA" "STA" "DEI" "DEO"
+    "ADD" "SUB" "MUL" "DIV" "AND" "ORA" "EOR" "SFT")
+  "The instructions that take modes.")
+;; facts end
+
 (defconst uxntal-opcodes
-  (concat "BRK\\|JCI\\|JMI\\|JSI\\|\\(?:"
-          (regexp-opt '("LIT" "INC" "POP" "NIP" "SWP" "ROT" "DUP" "OVR" "EQU" "NEQ" "GTH" "LTH"
-                        "JMP" "JCN" "JSR" "STH" "LDZ" "STZ" "LDR" "STR" "LDA" "STA" "DEI" "DEO"
-                        "ADD" "SUB" "MUL" "DIV" "AND" "ORA" "EOR" "SFT"))
-          "\\)[2kr]*")
+  (concat (regexp-opt uxntal-plain-opcodes) "\\|\\(?:" (regexp-opt uxntal-moded-opcodes) "\\)[2kr]*")
   "The regular expression of the instructions.")
 
 (defun uxntal-word (form)
@@ -47,7 +58,7 @@ The blank behind one is left for the next."
 (defvar uxntal-font-lock-keywords
   `((,(uxntal-search "\"[^[:space:]]*") 1 font-lock-string-face)
     (,(uxntal-search "[@&][^[:space:]]+") 1 font-lock-function-name-face)
-    (,(uxntal-search "[,_.;=!?/-][^[:space:]]+") 1 font-lock-variable-name-face)
+    (,(uxntal-search (concat "[/" uxntal-runes "][^[:space:]]+")) 1 font-lock-variable-name-face)
     (,(uxntal-search "[|$][0-9a-f]\\{1,4\\}") 1 font-lock-preprocessor-face)
     (,(uxntal-search "#?\\(?:[0-9a-f][0-9a-f]\\)\\{1,2\\}") 1 font-lock-constant-face)
     (,(uxntal-search "[%~][^[:space:]]+") 1 font-lock-preprocessor-face)
@@ -109,7 +120,7 @@ just the other parenthesis ends the innermost.")
 
 (defun uxntal--opener-p (word)
   "Whether WORD opens what a brace or a bracket closes."
-  (string-match-p "\\`\\(?:[,_.;=!?-]?{\\|\\[\\)\\'" word))
+  (string-match-p (concat "\\`\\(?:[" uxntal-runes "]?{\\|\\[\\)\\'") word))
 
 (defun uxntal--closer-p (word)
   "Whether WORD closes it."

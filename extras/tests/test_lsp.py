@@ -186,7 +186,7 @@ class Meanings(Session):
         self.begin()
         self.assertEqual(self.hover("#ff"), "`ff` is 255, -1 with a sign, binary `11111111`")
         self.assertIn("`30` is 48, binary `00110000`, `0` as a sign", hover.number(shape(b"#30"), b"DEI"))
-        self.assertIn("port 17, Console/type: what the byte is", self.hover(".Console/type", 3))
+        self.assertIn("port 17, Console/type: the kind of that byte", self.hover(".Console/type", 3))
         self.assertEqual(
             self.hover("address #01"),
             "label **address** at `" + self.address("address") + "`, 4 references, in life.tal:64\n\n"
@@ -205,7 +205,7 @@ class Meanings(Session):
         for character in (5, 13, 25):
             answer = self.client.result("textDocument/hover", **self.client.at("a.tal", 0, character))
             said.append(answer["contents"]["value"].split("\n\n")[1:])
-        self.assertEqual(said[0], ["port 18, Console/write: puts a byte on the standard output"])
+        self.assertEqual(said[0], ["port 18, Console/write: a write puts the byte on the standard output"])
         self.assertEqual(said[1], [])
         self.assertIn("port 0f, System/state: ", said[2][0])
 

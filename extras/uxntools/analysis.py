@@ -11,17 +11,15 @@ from collections.abc import Callable, Iterator
 from functools import lru_cache
 from typing import NamedTuple
 
-from uxntools import opcodes, source
+from uxntools import facts, opcodes, source
+from uxntools.facts import CALL_SIZE, LIMITS
 from uxntools.source import Word
 
-RUNES = b",_.-;=!?"
-SIZES = dict(zip(RUNES, (2, 1, 2, 1, 3, 2, 3, 3)))
-NOT_FIRST = b'|$#@&,_.-;=!?"%~()[]{}/'
+RUNES = "".join(facts.RUNES).encode()
+SIZES = {ord(sign): size for sign, size in facts.RUNES.items()}
+NOT_FIRST = facts.RESERVED.encode()
 DIGITS = re.compile(rb"[0-9a-f]+")
 _new = tuple.__new__  # makes a named tuple at once, where there are very many
-DEEPEST_USE, DEEPEST_INCLUDE, MOST_INCLUDES, MOST_WORDS = 32, 15, 256, 1_000_000
-# How many bytes a source has with all that it includes.
-MOST_TEXT = 4_194_304
 
 
 class Kind(enum.Enum):
@@ -120,7 +118,7 @@ def shape(text: bytes) -> Shape:
         return Shape(kind, 0, rest, rune) if rest else _faulty(rune)
     if rune in b"{}[]":
         kind = {b"{": Kind.OPENER, b"}": Kind.CLOSER}.get(rune, Kind.BRACKET)
-        return _faulty(rune) if rest else Shape(kind, 3 if rune == b"{" else 0, b"", b"")
+        return _faulty(rune) if rest else Shape(kind, CALL_SIZE if rune == b"{" else 0, b"", b"")
     if rune in RUNES:
         if rest[:1] == b"{":
             return Shape(Kind.OPENER, SIZES[rune[0]], b"", rune) if rest == b"{" else _faulty(rune)
@@ -129,7 +127,7 @@ def shape(text: bytes) -> Shape:
         return Shape(Kind.RAW, len(text) // 2, text, b"")
     if opcodes.instruction(text.decode("latin-1")):
         return Shape(Kind.OPCODE, 1, text, b"")
-    return Shape(Kind.REFERENCE, 3, text, b"") if text != b"/" else _faulty(b"")
+    return Shape(Kind.REFERENCE, CALL_SIZE, text, b"") if text != b"/" else _faulty(b"")
 
 
 def _faulty(rune: bytes) -> Shape:
@@ -390,7 +388,7 @@ class _Walk:
 
     def _include(self, word: Word, depth: int) -> None:
         inner = source.included(self.found.path, word.text)
-        is_too_much = depth == DEEPEST_INCLUDE or self.includes == MOST_INCLUDES or self.size > MOST_TEXT
+        is_too_much = depth == LIMITS.include_depth or self.includes == LIMITS.included_files or self.size > LIMITS.text
         if is_too_much or inner is None:
             self.found.missing.append(Missing(word, "there are too many"))
             return
@@ -427,11 +425,11 @@ class _Walk:
     def _use(self, word: Word, origin: Word, depth: int) -> None:
         self.visited += 1
         self._refer(Entity(True, word.text), word)
-        if depth > DEEPEST_USE:
+        if depth > LIMITS.macro_depth:
             return
         macros = self.found.macros
         for inner in macros[word.text].body:
-            if self.visited > MOST_WORDS:
+            if self.visited > LIMITS.words:
                 return
             if inner.text in macros:
                 self._use(inner, origin, depth + 1)

@@ -7,7 +7,7 @@ from collections.abc import Callable
 from dataclasses import dataclass
 from typing import NamedTuple
 
-from uxntools import files, includes, program, source
+from uxntools import facts, files, includes, program, source
 from uxntools.analysis import Analysis, Kind, shape
 from uxntools.cli import Failure, shown
 
@@ -17,34 +17,8 @@ REFUSAL = re.compile(
 ROM, SYMBOLS = ".uxn-rom", ".uxn-symbols"
 
 
-# What each kind of fault says of its word, as docs/uxntal.md has it.
-MEANINGS = {
-    "LongSource": "the source has over 4,194,304 bytes",
-    "OpenComment": "the comment is not closed",
-    "LongWord": "a word has at most 255 bytes",
-    "StrayParen": "no comment is open here",
-    "IncludePath": "this is no path below the source's folder",
-    "IncludeMissing": "there is no such file below the source's folder",
-    "IncludeLong": "the file has over 4,194,304 bytes",
-    "IncludeDeep": "files include one another at most 15 deep",
-    "IncludeMany": "at most 256 files are included",
-    "IncludeLongText": "all files together have over 4,194,304 bytes",
-    "BadName": "this cannot be a name",
-    "NoName": "a name is missing",
-    "MacroTwice": "a macro has this name already",
-    "MacroBody": "a macro's body stands between { and }, and defines no macro",
-    "MacroDeep": "macros use one another at most 32 deep",
-    "ManyWords": "macros make over 1,000,000 words",
-    "BadNumber": "the digits are lowercase: two or four behind #, one to four behind | and $",
-    "StrayBrace": "no brace is open here",
-    "OpenBrace": "the brace is not closed",
-    "LabelTwice": "a label has this name already",
-    "ZeroPage": "bytes cannot stand below 0100",
-    "Outside": "this stands past ffff",
-    "Rewind": "bytes stand here already",
-    "UnknownName": "no label has this name, and no macro before it",
-    "TooFar": "the label is over 127 bytes away",
-}
+# What each kind of fault says of its word.
+MEANINGS = facts.KINDS["include"] | facts.KINDS["source"]
 
 
 class Fault(NamedTuple):

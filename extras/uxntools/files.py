@@ -20,8 +20,9 @@ from dataclasses import dataclass, field
 from functools import lru_cache
 from typing import IO, NamedTuple
 
+from uxntools.facts import LIMITS
+
 MEBIBYTE = 1 << 20
-MOST_INPUT = 4_194_304
 # How many files and folders a root has at most, how many bytes they have together, and how deep they lie.
 MOST_FILES = 10_000
 MOST_BYTES = 64 * MEBIBYTE
@@ -36,12 +37,12 @@ class Kind(NamedTuple):
     status: int = 1
 
 
-SOURCE = Kind(MOST_INPUT, "LongSource", 131)
-SCRIPT = Kind(MOST_INPUT, "LongScript", 132)
-COMMANDS = Kind(MOST_INPUT, "LongCommands", 133)
-SETUP = Kind(MOST_INPUT, "LongSetup", 139)
-ROM = Kind(1_048_320, "rom", 134)
-SYMBOLS = Kind(16_777_216, "Long", 134)
+SOURCE = Kind(LIMITS.text, "LongSource", 131)
+SCRIPT = Kind(LIMITS.text, "LongScript", 132)
+COMMANDS = Kind(LIMITS.text, "LongCommands", 133)
+SETUP = Kind(LIMITS.text, "LongSetup", 139)
+ROM = Kind(LIMITS.rom, "rom", 134)
+SYMBOLS = Kind(LIMITS.symbols, "Long", 134)
 SETTINGS = Kind(MEBIBYTE)
 # An output of a run: pictures, samples, a text, a log, or a file of its root.
 OUTPUT = Kind(64 * MEBIBYTE)

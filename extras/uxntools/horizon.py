@@ -9,6 +9,7 @@ from __future__ import annotations
 from dataclasses import dataclass
 
 from uxntools import events, report
+from uxntools.facts import LIMITS
 from uxntools.target import Workspace
 
 # How far behind a moment a run may go: so many instructions, or this part of those before the moment. What a run
@@ -18,8 +19,8 @@ LEAST_REST, PART_OF_REST = 200_000, 8
 # is followed to its end at once where that is not so much longer.
 FIRST_DISTANCE, FARTHER = 300_000, 8
 WORTH = 6
-# The most instructions of a vector where no option says another number, and what chosen budgets are multiples of.
-BUDGET, BUDGET_STEP = 4_000_000, 100_000
+# What chosen budgets are multiples of.
+BUDGET_STEP = 100_000
 
 
 @dataclass(frozen=True)
@@ -142,7 +143,7 @@ class Horizon:
             return None
         start = self._start(event)
         budget = ((moment - start) // BUDGET_STEP + 2) * BUDGET_STEP
-        if budget >= int(self.workspace.target.budget or BUDGET):
+        if budget >= int(self.workspace.target.budget or LIMITS.usual_budget):
             return None
         return budget if not event or self.counts(event - 1, budget) == (start, 0) else None
 

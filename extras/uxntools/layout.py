@@ -4,7 +4,7 @@ from __future__ import annotations
 
 from typing import NamedTuple
 
-from uxntools.analysis import Row, rows
+from uxntools.analysis import RUNES, Row, rows
 
 BLANKS = bytes(range(0x21))
 
@@ -144,7 +144,7 @@ class _Lines:
             self.sublabels.append(Place(old, level))
 
     def _brace(self, word: bytes, level: int) -> None:
-        if word in (b"{", b"[") or len(word) == 2 and word[1:] == b"{" and word[:1] in b",_.-;=!?":
+        if word in (b"{", b"[") or len(word) == 2 and word[1:] == b"{" and word[:1] in RUNES:
             self.open.append(level)
         elif word in (b"}", b"]") and self.open:
             self.open.pop()

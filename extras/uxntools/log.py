@@ -4,8 +4,10 @@ from __future__ import annotations
 from collections.abc import Iterator, Sequence
 from dataclasses import dataclass
 
+from uxntools.facts import LIMITS
+
 # How many commands `uxn debug` takes.
-MOST_COMMANDS = 65536
+MOST_COMMANDS = LIMITS.commands
 
 
 @dataclass(frozen=True)

@@ -103,7 +103,7 @@ def _indented(markdown: str) -> str:
 def blocks(markdown: str) -> list[Block]:
     """The blocks of a page in order."""
     found: list[Block] = [Block("blank")]
-    for line in _indented(markdown).splitlines():
+    for line in re.sub(r"(?m)^<!-- .* -->\n+", "", _indented(markdown)).splitlines():
         kind, last = _kind(line), found[-1]
         if (
             last.kind == "item"

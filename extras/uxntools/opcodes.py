@@ -1,105 +1,22 @@
-"""The instructions: one table of the 32 operations with their names, their effects on the stacks and what they do,
-and their modes."""
+"""The instructions: the operations with their effects on the stacks, in their modes."""
 from __future__ import annotations
 
 import re
-from dataclasses import dataclass
+from dataclasses import dataclass, replace
 from functools import lru_cache
+
+from uxntools import facts
+from uxntools.facts import Item, Operation
 
 SHORT, RETURN, KEEP = 0x20, 0x40, 0x80
 MODES = {"2": SHORT, "r": RETURN, "k": KEEP}
 MODE_WORDS = {"2": "short mode", "r": "return mode", "k": "keep mode"}
 
 
-@dataclass(frozen=True)
-class Item:
-    """What an operation takes from a stack or pushes on one: its name, and its width in bytes, or 0 where the mode
-    chooses it."""
-
-    name: str
-    width: int
-
-    def size(self, is_short: bool) -> int:
-        return self.width or 1 + is_short
-
-    def text(self, is_short: bool) -> str:
-        """The name as comments of sources have it, with a star for a short."""
-        return self.name + "*" * (self.size(is_short) == 2)
-
-
-@dataclass(frozen=True)
-class Operation:
-    """A row of the table. `other` is pushed on the other stack: the return stack, or the working stack in return
-    mode."""
-
-    code: int
-    name: str
-    takes: tuple[Item, ...]
-    pushes: tuple[Item, ...]
-    other: tuple[Item, ...]
-    does: str
-
-
-def _items(text: str) -> tuple[Item, ...]:
-    """The items of a field: a name, behind it :1 or :2 where its width is that number of bytes in any mode."""
-    parts = (item.partition(":") for item in text.split())
-    return tuple(Item(name, int(width or 0)) for name, _, width in parts)
-
-
-# The name, what is taken (the deepest first), what is pushed, what is pushed on the other stack, and what the
-# operation does.
-_TABLE = """
-INC | a       | a+1       |      | adds 1
-POP | a       |           |      | drops the top
-NIP | a b     | b         |      | drops what is beneath the top
-SWP | a b     | b a       |      | swaps the two topmost
-ROT | a b c   | b c a     |      | brings the third to the top
-DUP | a       | a a       |      | doubles the top
-OVR | a b     | a b a     |      | copies what is beneath the top onto it
-EQU | a b     | a==b:1    |      | 01 if they are equal, else 00
-NEQ | a b     | a!=b:1    |      | 01 if they differ, else 00
-GTH | a b     | a>b:1     |      | 01 if a is greater (unsigned), else 00
-LTH | a b     | a<b:1     |      | 01 if a is less (unsigned), else 00
-JMP | to      |           |      | goes on at `to`
-JCN | test:1 to |         |      | goes on at `to` if the test is not 0
-JSR | to      |           | pc:2 | goes on at `to`, and pushes the address behind itself on the other stack
-STH | a       |           | a    | moves the top to the other stack
-LDZ | at:1    | value     |      | reads the zero page
-STZ | value at:1 |        |      | writes the zero page
-LDR | distance:1 | value  |      | reads memory at a signed distance
-STR | value distance:1 |  |      | writes memory at a signed distance
-LDA | at:2    | value     |      | reads memory
-STA | value at:2 |        |      | writes memory
-DEI | port:1  | value     |      | reads a port
-DEO | value port:1 |      |      | writes a port
-ADD | a b     | a+b       |      | adds
-SUB | a b     | a-b       |      | subtracts the top from what is beneath it
-MUL | a b     | a*b       |      | multiplies
-DIV | a b     | a/b       |      | divides, rounded down; by 0 it gives 0
-AND | a b     | a&b       |      | bitwise and
-ORA | a b     | a|b       |      | bitwise or
-EOR | a b     | a^b       |      | bitwise exclusive or
-SFT | a shift:1 | shifted |      | shifts right by the low digit of the shift, then left by its high digit
-"""
-
-
-def _rows() -> list[Operation]:
-    rows = []
-    for code, line in enumerate(_TABLE.strip().splitlines(), 1):
-        name, takes, pushes, other, does = (field.strip() for field in re.split(r"\s\|\s", line))
-        rows.append(Operation(code, name, _items(takes), _items(pushes), _items(other), does))
-    return rows
-
-
-OPERATIONS = {row.name: row for row in _rows()}
-# The operations of the code 0: the whole byte decides. What follows them in memory is no part of the stacks.
-IMMEDIATE = {
-    "BRK": Operation(0x00, "BRK", (), (), (), "ends the vector"),
-    "JCI": Operation(0x20, "JCI", _items("test:1"), (), (), "goes on at the distance behind it if the test is not 0"),
-    "JMI": Operation(0x40, "JMI", (), (), (), "goes on at the distance behind it"),
-    "JSI": Operation(0x60, "JSI", (), (), _items("pc:2"), "calls the subroutine at the distance behind it"),
-}
-LIT = Operation(0x80, "LIT", (), _items("value"), (), "pushes the value that follows it")
+# The operations that take no modes: their whole byte decides. What follows them in memory is no part of the stacks.
+IMMEDIATE = {name: row for name, row in facts.OPERATIONS.items() if not row.code & 0x1F and name != "LIT"}
+LIT = replace(facts.OPERATIONS["LIT"], code=KEEP)
+OPERATIONS = {name: row for name, row in facts.OPERATIONS.items() if row.code & 0x1F}
 NAMES = [*IMMEDIATE, "LIT", *OPERATIONS]
 WORD = re.compile(r"([A-Z]{3})([2kr]*)")
 

@@ -15,10 +15,7 @@ from typing import IO
 
 from uxntools import files
 from uxntools.cli import Failure
-
-# The statuses of `uxn` itself, behind those that a program can give (0 to 127).
-REFUSED = (*range(128, 136), 139)
-ENDED_EARLY = range(136, 139)
+from uxntools.facts import REFUSED, STOPPED_EARLY
 
 FAULT = re.compile(
     r"source (?:(?P<path>.*) )?(?P<line>\d+):(?P<column>\d+): (?P<kind>[A-Za-z]+): (?P<word>.*)", re.DOTALL
@@ -179,7 +176,7 @@ def need(*words: str, folder: str | None = None) -> Done:
 def accepted(done: Done) -> Done:
     """What a call gave that was not refused and did not end early; another one ends the tool with its line and
     status."""
-    if done.status in ENDED_EARLY:
+    if done.status in STOPPED_EARLY:
         raise Failure(f"the run ended early with {done.status} (docs/ended.md says why)", done.status)
     if done.status >= 128:
         raise Failure(done.line or f"uxn ended with {done.status}", done.status)

@@ -15,7 +15,7 @@ from contextlib import suppress
 from dataclasses import dataclass, field
 from typing import IO
 
-from uxntools import attached, cli, files, includes, program, source
+from uxntools import attached, cli, facts, files, includes, program, source
 from uxntools.cli import Failure
 from uxntools.files import Kind
 from uxntools.program import Done
@@ -26,11 +26,6 @@ FILES_FAILED = 136
 # How long any input is at most: that is a symbol file. And how often a run is looked at, in seconds.
 MOST_INPUT = files.SYMBOLS.most
 PAUSE = 0.05
-# Of each command the options that name an input, and those that name an output.
-RUN_OUTPUTS = ("--frames", "--samples", "--report")
-INPUTS = {"play": ("--script",), "debug": ("--script", "--commands", "--symbols"), "dis": ("--symbols",)}
-OUTPUTS = {"play": RUN_OUTPUTS, "debug": ("--log", *RUN_OUTPUTS), "asm": ("--out", "--symbols", "--listing")}
-SWITCHES = ("--rom",)
 # Nothing of the system, no other process, no network, no terminal, no rights, no environment; it ends with its caller.
 BUBBLEWRAP = "--unshare-all --die-with-parent --new-session --cap-drop ALL --clearenv"
 # Where a file of the C library may lie, as `ldd` names it.
@@ -91,7 +86,7 @@ def _options(words: list[str]) -> Iterator[tuple[str, str]]:
     rest = iter(words)
     for word in rest:
         name, mark, value = word.partition("=")
-        if not word.startswith("-") or name in SWITCHES:
+        if not word.startswith("-") or name.removeprefix("--") in facts.SWITCHES:
             yield "", "" if word.startswith("-") else word
         else:
             yield name, value if mark else next(rest, "")
@@ -100,14 +95,16 @@ def _options(words: list[str]) -> Iterator[tuple[str, str]]:
 def read_call(words: list[str]) -> Call:
     """What a call names. Words that `uxn` refuses may name nothing here: it refuses them before it looks at a file."""
     call, command = Call(words), words[0]
+    known = facts.COMMANDS.get(command)
+    outputs, inputs = (known.outputs, known.inputs) if known else ((), ())
     for name, value in _options(words[1:]):
         if not is_path(value):
             continue
         if name == "--root":
             call.root = value
-        elif name in OUTPUTS.get(command, ()):
+        elif name.removeprefix("--") in outputs:
             call.outputs.append(value)
-        elif name in INPUTS.get(command, ()) or not name and command != "gen":
+        elif name.removeprefix("--") in inputs or not name and command != "gen":
             is_source = not name and "--rom" not in words and command not in ("dis", "line")
             _add(call, _sources(value) if is_source else {value: value})
             if command == "line":
@@ -418,7 +415,7 @@ def run(words: list[str], limits: Limits, isolation: str) -> int:
         status = attached.call([*command, *words], folder, limits.apply, watch.begin)
         watch.end()
         watch.hand_on_held(status)
-        if status not in program.REFUSED:
+        if status not in facts.REFUSED:
             move_outputs(folder, call)
         said = [*watch.said, *limits_met(status, folder, call, limits)]
     for line in said:

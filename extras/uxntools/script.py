@@ -5,10 +5,12 @@ import re
 from collections.abc import Iterator
 from dataclasses import dataclass
 
+from uxntools.facts import LIMITS
+
 BLANKS = re.compile(rb"[\t\r ]+")
 BYTE = re.compile(rb"[0-9a-fA-F]{2}")
-# A script has at most 1,000,000 events: one for each byte of input, and one for its end.
-MOST_INPUT = 999_999
+# A script gives an event for each byte of its input, and one for the end.
+MOST_INPUT = LIMITS.events - 1
 
 
 @dataclass(frozen=True)

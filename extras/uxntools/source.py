@@ -8,10 +8,10 @@ from typing import NamedTuple
 
 from uxntools import files, includes
 from uxntools.cli import Failure
+from uxntools.facts import LIMITS
 
-# How many files and bytes a source is read with; `uxn` takes 257, and 4,194,304.
+# How many files and bytes a source is read with: more than `uxn` takes.
 MOST_FILES, MOST_BYTES = 600, 8_388_608
-LONGEST_WORD = 255
 # A word that opens, nests or closes a comment, or may include a file.
 NOTED = re.compile(rb"(?<![^\x00-\x20])(?:\([^\x00-\x20]*|\)(?![^\x00-\x20])|~[^\x00-\x20]+)")
 WORD = re.compile(rb"[^\x00-\x20]+")
@@ -73,7 +73,7 @@ def included(source: str, word: bytes) -> str | None:
 
 def included_from(folder: str, word: bytes) -> str | None:
     """The path that an include word names, where the includes begin at this folder."""
-    if not word.startswith(b"~") or not 2 <= len(word) <= LONGEST_WORD:
+    if not word.startswith(b"~") or not 2 <= len(word) <= LIMITS.word:
         return None
     return os.path.join(folder, os.fsdecode(word[1:]))
 

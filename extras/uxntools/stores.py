@@ -14,16 +14,15 @@ from dataclasses import dataclass
 from uxntools import executed, log, moments
 from uxntools.cli import Failure
 from uxntools.executed import Executed
+from uxntools.facts import MEMORY_PORTS, OPERATIONS
 from uxntools.log import MOST_COMMANDS, Place, Stacks
 from uxntools.moments import State
 from uxntools.target import Workspace
 
 # The low five bits of the instructions that change memory, DEO by way of a device.
-STZ, STR, STA, DEO = 0x11, 0x13, 0x15, 0x17
-NAMES = {"STZ": STZ, "STR": STR, "STA": STA, "DEO": DEO}
+NAMES = {name: OPERATIONS[name].code for name in ("STZ", "STR", "STA", "DEO")}
+STZ, STR, STA, DEO = NAMES.values()
 
-# The ports by which devices change memory: the low bytes of the system's expansion, and of a file's stat and read.
-MEMORY_PORTS = {0x03, 0xA5, 0xAD, 0xB5, 0xBD}
 MOST_BYTES = 4096
 MOST_SHOWN = 256
 

@@ -6,10 +6,11 @@ from collections.abc import Iterable
 from dataclasses import dataclass, field
 
 from uxntools.cli import Failure
+from uxntools.facts import LIMITS
 
 
 # A source has no more words, and so no more labels.
-MOST_LABELS = 1_000_000
+MOST_LABELS = LIMITS.words
 
 
 @dataclass(frozen=True, slots=True)

@@ -50,6 +50,7 @@ PARTS = (
     Part("counts", ("bench/run",), is_in_memory=True, row=" instructions of ", option="--only"),
     Part("conditions", (".ci/conditions",), is_in_memory=True),
     Part("lines", (".ci/lines",), is_in_memory=True),
+    Part("facts", ("tools/facts", "--check"), is_in_memory=True),
 )
 
 # What ./test checks by itself before all parts.

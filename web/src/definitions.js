@@ -1,8 +1,10 @@
 /** Where the label or macro of a word is defined. */
 
+import { RUNES } from './words.js';
+
 /** @typedef {{path: string, line: number, place: number}} Definition  Line and place count from 0. */
 
-const RUNES = /^[,_.;=!?-]|^\//;
+const FIRST_SIGN = new RegExp(`^[/${RUNES}]`);
 
 /**
  * The name that a word of a source refers to.
@@ -10,7 +12,7 @@ const RUNES = /^[,_.;=!?-]|^\//;
  * @param {string} scope
  */
 function nameOf(word, scope) {
-  const name = word.replace(RUNES, '');
+  const name = word.replace(FIRST_SIGN, '');
   if (/^[&/]/.test(name)) return `${scope}/${name.slice(1)}`;
   return word.startsWith('/') ? `${scope}/${name}` : name;
 }

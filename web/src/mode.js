@@ -1,8 +1,10 @@
 /** Uxntal's colours for the editor: what each word is, by docs/uxntal.md. */
 
-const OPCODE = /^(BRK|JCI|JMI|JSI|(LIT|INC|POP|NIP|SWP|ROT|DUP|OVR|EQU|NEQ|GTH|LTH|JMP|JCN|JSR|STH|LDZ|STZ|LDR|STR|LDA|STA|DEI|DEO|ADD|SUB|MUL|DIV|AND|ORA|EOR|SFT)[2kr]*)$/;
+import { MODED_OPCODES, PLAIN_OPCODES, RUNES } from './words.js';
+
+const OPCODE = new RegExp(`^(${PLAIN_OPCODES.join('|')}|(${MODED_OPCODES.join('|')})[2kr]*)$`);
 const DIGITS = /^([0-9a-f]{2}){1,2}$/;
-const BRACE = /^[,_.;=!?-]?[{}[\]]$/;
+const BRACE = new RegExp(`^[${RUNES}]?[{}[\\]]$`);
 
 /** @type {[RegExp, string][]} */
 const KINDS = [
@@ -17,7 +19,7 @@ const KINDS = [
   [/^%/, 'macro'],
   [/^~/, 'link-word'],
   [/^[!?]/, 'jump'],
-  [/^[,_.;=/-]/, 'variable-2'],
+  [new RegExp(`^[/${RUNES}]`), 'variable-2'],
 ];
 
 /** @param {string} word */

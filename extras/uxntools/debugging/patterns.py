@@ -8,7 +8,8 @@ from collections.abc import Iterable
 from dataclasses import dataclass
 
 from uxntools import log
-from uxntools.stores import MEMORY_PORTS, STA, STR, STZ, Stop, Watched, can_store
+from uxntools.facts import MEMORY_PORTS
+from uxntools.stores import STA, STR, STZ, Stop, Watched, can_store
 
 # The last letter of each name, with which it is searched for, and how many bytes of an address it takes.
 LETTERS = {STA: b"A(?<=STA)", STZ: b"Z(?<=STZ)", STR: b"R(?<=STR)"}

@@ -12,6 +12,7 @@ from uxntools.debugging import backwards, frames
 from uxntools.debugging.backwards import FarStores, Near, Unsure
 from uxntools.debugging.frames import Frame
 from uxntools.debugging.known import Known
+from uxntools.facts import STOPPED_EARLY
 from uxntools.horizon import Horizon
 from uxntools.moments import State
 from uxntools.stores import MOST_SHOWN, Change, Stores, Watched
@@ -64,7 +65,7 @@ class Session:
     def _followed(self, workspace: Workspace) -> Horizon:
         """The run, without the event in which it ends early."""
         done, made = workspace.try_play(workspace.script(), "report")
-        if done.status in program.ENDED_EARLY:
+        if done.status in STOPPED_EARLY:
             self._shorten(workspace, done.status)
             return Horizon(workspace)
         program.accepted(done)
@@ -95,7 +96,7 @@ class Session:
         while most - least > 1:
             middle = (least + most) // 2
             done, _ = workspace.try_play(events.prefix(script, middle))
-            if done.status in program.ENDED_EARLY:
+            if done.status in STOPPED_EARLY:
                 most = middle
             else:
                 least = middle

@@ -7,39 +7,12 @@ from difflib import get_close_matches
 
 from uxntools import script
 from uxntools.explaining import Reason, quoted
+from uxntools.facts import COMMANDS, LIMITS, NUMBERS, SWITCHES
 
 
-@dataclass(frozen=True)
-class Command:
-    """A command: what its word is, its options with what each is about, and those that it needs."""
-
-    word: str
-    options: tuple[str, ...] = ()
-    needed: tuple[str, ...] = ()
-
-
-PLAY = ("rom", "script", "root", "frames", "samples", "report", "budget")
-COMMANDS = {
-    "play": Command("the source or ROM", PLAY),
-    "debug": Command("the source or ROM", (*PLAY, "commands", "log", "symbols"), ("commands", "log")),
-    "asm": Command("the source", ("out", "symbols", "listing"), ("out",)),
-    "dis": Command("the ROM", ("symbols",)),
-    "gen": Command("a number from 1 to 8000"),
-    "line": Command("the setup"),
-}
-FLAGS = {"rom"}
-NUMBERS = {"budget"}
-# The options that name files which are written, in the order of the usage lines.
-OUTPUTS = ("out", "symbols", "listing", "log", "frames", "samples", "report")
-USAGE = {
-    "play": "uxn play SRC [--rom] [--script S] [--root R] [--frames P] [--samples P] [--report P] [--budget N]",
-    "debug": "uxn debug SRC --commands C --log P [--symbols Y], and the options of play",
-    "asm": "uxn asm SRC --out P [--symbols P] [--listing P]",
-    "dis": "uxn dis ROM [--symbols P]",
-    "gen": "uxn gen N",
-    "line": "uxn line SETUP",
-}
 OTHER_PROGRAMS = ("uxnasm", "uxncli", "uxnemu")
+# The options that name files which are written, in the order of the usage lines.
+OUTPUTS = tuple(dict.fromkeys(name for command in ("asm", "debug") for name in COMMANDS[command].outputs))
 ALL_OPTIONS = sorted({option for command in COMMANDS.values() for option in command.options})
 
 
@@ -79,7 +52,7 @@ def read(words: list[str]) -> Words:
     """The words behind `uxn`, with every fault that makes `words: not understood` of them."""
     found = Words()
     if not words:
-        found.wrong("There is no command.", "one of: " + "; ".join(USAGE.values()))
+        found.wrong("There is no command.", "one of: " + "; ".join(command.usage for command in COMMANDS.values()))
         return found
     found.command = words[0]
     if words[0] not in COMMANDS:
@@ -98,7 +71,7 @@ def read(words: list[str]) -> Words:
     for name in COMMANDS[found.command].needed:
         is_named = found.command == "asm" and len(found.own) > 1
         if name not in found.options and not is_named:
-            found.wrong(f"{found.command} needs the option --{name}, which is not there.", USAGE[found.command])
+            found.wrong(f"{found.command} needs the option --{name}, which is not there.", COMMANDS[found.command].usage)
     return found
 
 
@@ -106,7 +79,7 @@ def _no_command(found: Words, word: str, rest: list[str]) -> None:
     if word in ("--help", "-h", "help", "--version", "-v"):
         found.wrong(
             f"There is no {word}: the pages are in docs/, and `man uxn` where the manual page is installed.",
-            "one of: " + "; ".join(USAGE.values()),
+            "one of: " + "; ".join(command.usage for command in COMMANDS.values()),
         )
     elif word in OTHER_PROGRAMS:
         found.wrong(f"{word} is another program, and no command of this one.", _call_of_other(word, rest))
@@ -158,12 +131,12 @@ def _option(found: Words, text: str, waiting: list[str]) -> None:
     command = COMMANDS[found.command]
     if name not in command.options:
         _unknown_option(found, name)
-        if not is_joined and name in ALL_OPTIONS and name not in FLAGS and waiting and not waiting[0].startswith("-"):
+        if not is_joined and name in ALL_OPTIONS and name not in SWITCHES and waiting and not waiting[0].startswith("-"):
             waiting.pop(0)
         return
     if name in found.options:
         found.wrong(f"--{name} stands twice; each option stands at most once.", f"--{name} once")
-    if name in FLAGS:
+    if name in SWITCHES:
         if is_joined:
             found.wrong(f"--{name} takes no value.", f"--{name}")
         found.options[name] = ""
@@ -183,25 +156,25 @@ def _option(found: Words, text: str, waiting: list[str]) -> None:
             f"The value of --{name} is {'empty' if not value else quoted(value) + ', which begins with `-`'}.",
             f"--{name} VALUE",
         )
-    elif name in NUMBERS and (fault := _number_fault(value, 1, 4294967295)):
-        found.wrong(f"The value {quoted(value)} of --{name} {fault}.", f"--{name} 4000000")
+    elif name in NUMBERS and (fault := _number_fault(value, 1, LIMITS.budget)):
+        found.wrong(f"The value {quoted(value)} of --{name} {fault}.", f"--{name} {LIMITS.usual_budget}")
 
 
 def _unknown_option(found: Words, name: str) -> None:
     command = found.command
     owners = [other for other, it in COMMANDS.items() if name in it.options]
     if name in ("help", "version"):
-        found.wrong(f"There is no --{name}.", USAGE[command])
+        found.wrong(f"There is no --{name}.", COMMANDS[command].usage)
     elif owners:
         has = ", ".join("--" + option for option in COMMANDS[command].options) or "none"
         found.wrong(
             f"--{name} is an option of {' and '.join(owners)}, not of {command}, whose options are: {has}.",
-            USAGE[command],
+            COMMANDS[command].usage,
         )
     else:
         found.wrong(
             f"There is no option {quoted('--' + name)}.",
-            _near(name, list(COMMANDS[command].options), "--") or USAGE[command],
+            _near(name, list(COMMANDS[command].options), "--") or COMMANDS[command].usage,
         )
 
 
@@ -209,7 +182,7 @@ def _check_own(found: Words) -> None:
     """There is one word that is no option and no value of one."""
     command = COMMANDS[found.command]
     if not found.own:
-        found.wrong(f"{found.command} needs {command.word}, which is not there.", USAGE[found.command])
+        found.wrong(f"{found.command} needs {command.word}, which is not there.", COMMANDS[found.command].usage)
     elif len(found.own) > 1:
         extra = found.own[1]
         if found.command == "asm":
@@ -229,8 +202,8 @@ def _check_own(found: Words) -> None:
                 f"uxn dis {found.own[0]} >{extra}",
             )
         else:
-            found.wrong(f"{quoted(extra)} is one word too many.", USAGE[found.command])
-    elif found.command == "gen" and (fault := _number_fault(found.own[0], 1, 8000)):
+            found.wrong(f"{quoted(extra)} is one word too many.", COMMANDS[found.command].usage)
+    elif found.command == "gen" and (fault := _number_fault(found.own[0], 1, LIMITS.routines)):
         found.wrong(f"{quoted(found.own[0])} {fault}.", "uxn gen 1000")
 
 

@@ -5,43 +5,11 @@ from __future__ import annotations
 from dataclasses import dataclass
 from difflib import get_close_matches
 
+from uxntools import facts
 from uxntools.explaining import Reason, quoted
+from uxntools.facts import LIMITS
 
-SCRIPT = {
-    "clock": "clock S M: seconds since 1970 (0 to 253370000000), and the zone in minutes (-840 to 840)",
-    "args": 'args T T ..: each T a text, as "fast, or pairs of digits, as 0a',
-    "input": 'input T T ..: each T a text, as "hello, or pairs of digits, as 20 or 0a',
-    "end": "end",
-    "frame": "frame, or frame N: 1 to 1000000",
-    "key": "key HH: two digits, as 71; in version 2 also key HH N: 1 to 1000000 times",
-    "down": "down B: a, b, select, start, up, down, left or right; in version 2 also down B P: player 1 to 4",
-    "up": "up B: a, b, select, start, up, down, left or right; in version 2 also up B P: player 1 to 4",
-    "mouse": "mouse X Y: 0 to 65535",
-    "press": "press N: 1 to 8",
-    "release": "release N: 1 to 8",
-    "scroll": "scroll X Y: -32768 to 32767",
-    "shot": "shot",
-    "script": "script 2, as the first line with words",
-    "expect": "expect PP HH: two digits each, as expect f2 01",
-}
-COMMANDS = {
-    "break": "break A: four digits, or @ and a label",
-    "delete": "delete A: four digits, or @ and a label",
-    "run": "run",
-    "step": "step N: 1 to 4294967295",
-    "back": "back N: 1 to 65536",
-    "where": "where",
-    "stacks": "stacks",
-    "mem": "mem A N: four digits, or @ and a label; 1 to 256 bytes",
-    "ports": "ports",
-}
-SETUP = {
-    "machine": "machine P: the path of a source",
-    "script": "script P: the path of a script",
-    "budget": "budget N: 1 to 4294967295",
-    "turn": "turn M N: machine M, counted from 1; 1 to 1000000 turns",
-}
-TABLES = {"script": SCRIPT, "commands": COMMANDS, "setup": SETUP}
+TABLES = {"script": facts.SCRIPT, "commands": facts.DEBUGGER, "setup": facts.SETUP}
 
 
 @dataclass(frozen=True)
@@ -138,23 +106,23 @@ def _no_such_label(line: Line) -> Reason:
 
 
 FIXED = {
-    "ManyEvents": "With this line the script has more than 1,000,000 events.",
-    "LongScript": "A script has at most 4,194,304 bytes.",
-    "ManyCommands": "There are at most 65,536 commands.",
-    "LongCommands": "Commands have at most 4,194,304 bytes.",
+    "ManyEvents": f"With this line the script has more than {LIMITS.events:,} events.",
+    "LongScript": f"A script has at most {LIMITS.text:,} bytes.",
+    "ManyCommands": f"There are at most {LIMITS.commands:,} commands.",
+    "LongCommands": f"Commands have at most {LIMITS.text:,} bytes.",
     "Twice": "This line stands a second time in the setup.",
-    "ManyMachines": "There are at most eight machines.",
+    "ManyMachines": f"There are at most {LIMITS.machines} machines.",
     "NoMachine": "No earlier line gives the machine of this turn: machines count from 1, and `machine` lines "
     "stand before.",
-    "ManyTurns": "There are at most 10,000,000 turns.",
+    "ManyTurns": f"There are at most {LIMITS.turns:,} turns.",
     "FewMachines": "A line has two machines at least: two lines `machine P`.",
-    "LongSetup": "A setup has at most 4,194,304 bytes.",
+    "LongSetup": f"A setup has at most {LIMITS.text:,} bytes.",
     "Events": "The script of a line of machines has only `clock`, `args`, `input` and `end`: no frames, keys, "
     "mouse, pictures or expects.",
     "Torn": "The symbol file ends within an entry: two bytes of address, the name, and a zero byte belong to each.",
     "NoName": "An entry of the symbol file has an empty name.",
     "BadByte": "A name in the symbol file has a byte up to 20.",
-    "Long": "A symbol file has at most 16,777,216 bytes. `asm --symbols` writes longer ones of a source with very many "
+    "Long": f"A symbol file has at most {LIMITS.symbols:,} bytes. `asm --symbols` writes longer ones of a source with very many "
     "or very long names.",
 }
 ALONE = {
@@ -185,8 +153,8 @@ def reason(kind: str, line: Line | None) -> Reason | None:
 
 
 def rom_reason(length: str, command: str) -> Reason:
-    most = "65,280" if command == "dis" else "1,048,320"
-    return Reason(f"The ROM has {length} bytes; `{command or 'play'}` takes at most {most}.")
+    most = LIMITS.rom_of_dis if command == "dis" else LIMITS.rom
+    return Reason(f"The ROM has {length} bytes; `{command or 'play'}` takes at most {most:,}.")
 
 
 ENDED = {

@@ -6,10 +6,10 @@ import re
 from collections.abc import Callable, Sequence
 from difflib import get_close_matches
 
-from uxntools import includes, opcodes, source
+from uxntools import facts, includes, opcodes, source
 from uxntools.explaining import Reason, quoted
+from uxntools.facts import LIMITS
 
-RUNES = '|$#@&,_.-;=!?"%~()[]{}/'
 MARK = "\ufeff"
 HEX = re.compile(r"[0-9a-fA-F]+")
 
@@ -72,10 +72,10 @@ def _bad_name(word: str, names: Sequence[str]) -> Reason:
         )
     if _is_opcode(name):
         return Reason(f"{quoted(name)} is an opcode and can be no name.", f"another name, as {word[0]}{name.lower()}")
-    if name[:1] in RUNES:
+    if name[:1] in facts.RESERVED:
         return Reason(
             f"A name does not begin with {quoted(name[:1])}, which is a rune.",
-            f"{word[0]}{name.lstrip(RUNES) or 'name'}",
+            f"{word[0]}{name.lstrip(facts.RESERVED) or 'name'}",
         )
     return Reason(f"{quoted(name)} is no name.", "a name that is no number, no opcode and does not begin with a rune")
 
@@ -152,7 +152,7 @@ def _later_macro(word: str, names: Sequence[str]) -> Reason | None:
 
 
 def _unknown_label(word: str, names: Sequence[str]) -> Reason:
-    rune = word[0] if word[0] in ",_.-;=!?/" else ""
+    rune = word[0] if word[0] in (*facts.RUNES, "/") else ""
     name = word[len(rune) :]
     near = get_close_matches(name.lstrip("&/"), [it for it in names if not it.startswith("%")], 1, 0.6)
     why = f"Nothing of the name {quoted(name)} is defined, in the source or in what it includes."
@@ -221,8 +221,8 @@ REASONS: dict[str, Callable[[str, Sequence[str]], Reason]] = {
     "MacroBody": _macro_body,
     "LabelTwice": _twice,
     "IncludeMissing": _include_missing,
-    "LongSource": _fixed("A source has at most 4,194,304 bytes."),
-    "LongWord": _fixed("A word has at most 255 bytes.", 'a text in parts, each with its own `"`'),
+    "LongSource": _fixed(f"A source has at most {LIMITS.text:,} bytes."),
+    "LongWord": _fixed(f"A word has at most {LIMITS.word} bytes.", 'a text in parts, each with its own `"`'),
     "StrayParen": lambda word, _: Reason(
         "This `)` closes no comment: a comment begins with a word that begins with `(`, and a `)` stands alone.",
         f"{word[1:]}" if len(word) > 1 else "nothing, or a `(` before",
@@ -232,11 +232,11 @@ REASONS: dict[str, Callable[[str, Sequence[str]], Reason]] = {
         f"A macro {quoted(word[1:])} is defined already.", "one of the two, or another name"
     ),
     "MacroDeep": _fixed(
-        "The use of this macro goes more than 32 deep: it uses itself, or others that use it.",
+        f"The use of this macro goes more than {LIMITS.macro_depth} deep: it uses itself, or others that use it.",
         "a label and a call, `@name .. JMP2r`, for what repeats itself",
     ),
     "ManyWords": _fixed(
-        "With this word the source has more than 1,000,000 words, macros replaced: one doubles itself again and again."
+        f"With this word the source has more than {LIMITS.words:,} words, macros replaced: one doubles itself again and again."
     ),
     "StrayBrace": _fixed(
         "This `}` closes nothing: there is no `{`, `?{` or `!{` before it that is open.",
@@ -259,10 +259,10 @@ REASONS: dict[str, Callable[[str, Sequence[str]], Reason]] = {
     "IncludePath": lambda word, _: Reason(
         _path_why(word[1:]), "the file in the source's folder or beneath it, as ~lib/print.tal"
     ),
-    "IncludeDeep": _fixed("Includes go at most 15 deep: a file includes itself, or others that include it."),
-    "IncludeMany": _fixed("A source follows at most 256 include words."),
-    "IncludeLong": _fixed("The included file has more than 4,194,304 bytes."),
-    "IncludeLongText": _fixed("With this word the source and what it includes have more than 4,194,304 bytes."),
+    "IncludeDeep": _fixed(f"Includes go at most {LIMITS.include_depth} deep: a file includes itself, or others that include it."),
+    "IncludeMany": _fixed(f"A source follows at most {LIMITS.included_files} include words."),
+    "IncludeLong": _fixed(f"The included file has more than {LIMITS.text:,} bytes."),
+    "IncludeLongText": _fixed(f"With this word the source and what it includes have more than {LIMITS.text:,} bytes."),
     "IncludeHere": _fixed("An include word is not followed here."),
 }
 

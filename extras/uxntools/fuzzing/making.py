@@ -6,15 +6,17 @@ import re
 from collections.abc import Sequence
 from dataclasses import dataclass, field
 
-from uxntools import script
+from uxntools import facts, script
+from uxntools.facts import BUTTONS
 
-BUTTONS = ("a", "b", "select", "start", "up", "down", "left", "right")
 # What is tried where a number is wanted: edges of bytes, shorts and screens.
 EDGES = (0, 1, 7, 8, 15, 16, 127, 128, 255, 256, 319, 320, 511, 512, 32767, 32768, 65535)
 KEYS = b"\x08\x09\x0a\x0d\x1b\x7f abcxyzABCXYZ0123456789+-*/()[]{}<>=!?.,:;'\"\\#@&%$^_~|\x00\x80\xff"
 LIT = 0x80
 MOST_LINES, MOST_FRAMES, MOST_TEXT = 400, 60, 300
-VECTORS = {0x10: "console", 0x20: "frame", 0x30: "frame", 0x40: "frame", 0x50: "frame", 0x60: "frame", 0x80: "controller", 0x90: "mouse"}
+# The lines that run each vector: of the screen and the voices, frames.
+OWN_LINES = {"Console": "console", "Controller": "controller", "Mouse": "mouse"}
+VECTORS = {port: OWN_LINES.get(name, "frame") for name, port in facts.DEVICES.items() if port in facts.VECTORS}
 Lines = tuple[str, ...]
 
 
@@ -102,7 +104,7 @@ class Maker:
         kind = self.chance.randrange(5)
         if kind == 0:
             return f"key {self._key():02x}"
-        return f"{'down' if kind < 4 else 'up'} {self.chance.choice(BUTTONS)}"
+        return f"{'down' if kind < 4 else 'up'} {self.chance.choice(list(BUTTONS))}"
 
     def _key(self) -> int:
         return self.chance.choice(self.keys if self.keys and self.chance.random() < 0.5 else KEYS)

@@ -5,6 +5,7 @@ import sys
 from collections.abc import Callable
 from typing import Any
 
+from uxntools import facts
 from uxntools.analysis import rows
 from uxntools.cli import shown
 from uxntools.layout import laid_out
@@ -35,7 +36,7 @@ CAPABILITIES = {
     "documentSymbolProvider": True,
     "foldingRangeProvider": True,
     "documentFormattingProvider": True,
-    "completionProvider": {"triggerCharacters": [*";.,!?&/=_-~|"]},
+    "completionProvider": {"triggerCharacters": [*facts.RUNES, *"&/~|"]},
     "renameProvider": {"prepareProvider": True},
     "semanticTokensProvider": {
         "legend": {"tokenTypes": outline.TOKEN_TYPES, "tokenModifiers": outline.TOKEN_MODIFIERS},

@@ -6,6 +6,7 @@ import signal
 from dataclasses import dataclass
 
 from uxntools import assertions, files, program, report, script
+from uxntools.facts import REFUSED
 from uxntools.testing.configuration import NAME
 from uxntools.testing.discovery import WANTED, Test
 from uxntools.testing.running import Result
@@ -19,7 +20,7 @@ NO_CALL = "ended like one that a shell cannot make,"
 # A source is refused with this status.
 REFUSED_SOURCE = 131
 # 200 is of a launcher that has no program to run.
-REFUSED_STATUSES = {*program.REFUSED, 200}
+REFUSED_STATUSES = {*REFUSED, 200}
 
 
 @dataclass(frozen=True)

@@ -10,6 +10,11 @@ setlocal indentexpr=UxntalIndent()
 setlocal indentkeys=o,O,!^F,0},0@,0&,0\|,0%
 let b:undo_indent = 'setlocal indentexpr< indentkeys<'
 
+" A word that opens a brace.
+" facts: words
+let s:opener = '^[,_.;=!?-]\={$'
+" facts end
+
 " The words of a line without its comments.
 function! s:Words(line) abort
   return split(substitute(a:line, '\%(^\|\s\)(.\{-}\%(\s)\%(\s\|$\)\@=\|$\)', ' ', 'g'))
@@ -18,7 +23,7 @@ endfunction
 " How many braces the words leave open; one that closes at the start counts for the line itself.
 function! s:Opened(words) abort
   let closed = len(filter(copy(a:words), "v:val ==# '}' || v:val ==# ']'"))
-  let opened = len(filter(copy(a:words), "v:val =~# '^[,_.;=!?-]\\={$' || v:val ==# '['"))
+  let opened = len(filter(copy(a:words), "v:val =~# s:opener || v:val ==# '['"))
   return opened - closed + (get(a:words, 0, '') =~# '^[]}]$')
 endfunction
 

@@ -6,17 +6,19 @@ syntax case match
 syntax match uxntalCall /\S\+/
 syntax match uxntalText /\%(^\|\s\)\@<="\S*/
 syntax match uxntalLabel /\%(^\|\s\)\@<=[@&]\S\+/
-syntax match uxntalReference /\%(^\|\s\)\@<=[,_.;=!?\/-]\S\+/
 syntax match uxntalPad /\%(^\|\s\)\@<=[|$]\x\{1,4}\%(\s\|$\)\@=/
 syntax match uxntalNumber /\%(^\|\s\)\@<=#\=\%(\x\x\)\{1,2}\%(\s\|$\)\@=/
 syntax match uxntalMacro /\%(^\|\s\)\@<=%\S\+/
 syntax match uxntalInclude /\%(^\|\s\)\@<=\~\S\+/
+" facts: words
+syntax match uxntalReference /\%(^\|\s\)\@<=[\/,_.;=!?-]\S\+/
 syntax match uxntalBrace /\%(^\|\s\)\@<=[,_.;=!?-]\=[{}[\]]\%(\s\|$\)\@=/
 syntax match uxntalOpcode /\%(^\|\s\)\@<=\%(BRK\|JCI\|JMI\|JSI\)\%(\s\|$\)\@=/
 syntax match uxntalOpcode /\%(^\|\s\)\@<=\%(LIT\|INC\|POP\|NIP\|SWP\|ROT\|DUP\|OVR\)[2kr]*\%(\s\|$\)\@=/
 syntax match uxntalOpcode /\%(^\|\s\)\@<=\%(EQU\|NEQ\|GTH\|LTH\|JMP\|JCN\|JSR\|STH\)[2kr]*\%(\s\|$\)\@=/
 syntax match uxntalOpcode /\%(^\|\s\)\@<=\%(LDZ\|STZ\|LDR\|STR\|LDA\|STA\|DEI\|DEO\)[2kr]*\%(\s\|$\)\@=/
 syntax match uxntalOpcode /\%(^\|\s\)\@<=\%(ADD\|SUB\|MUL\|DIV\|AND\|ORA\|EOR\|SFT\)[2kr]*\%(\s\|$\)\@=/
+" facts end
 syntax region uxntalNested contained matchgroup=uxntalNested
       \ start=/\%(^\|\s\)\@<=(\%(\s\|$\)\@=/ end=/\%(^\|\s\)\@<=)\%(\s\|$\)\@=/ contains=uxntalNested
 syntax region uxntalComment matchgroup=uxntalComment
