@@ -126,16 +126,6 @@ def _ports() -> list[Port]:
     ]
 
 
-def _usage(row: dict[str, Any]) -> str:
-    """The usage line of a command."""
-    words = ["uxn", row["name"], row["operand"]]
-    for name in (*row["needed"], *(name for name in row["options"] if name not in row["needed"])):
-        option = next(it for it in _FACTS["options"] if it["name"] == name and row["name"] in it["of"])
-        text = f"--{name} {option['value']}".rstrip()
-        words.append(text if name in row["needed"] else f"[{text}]")
-    return " ".join(words)
-
-
 def _commands() -> dict[str, Command]:
     return {row["name"]: _command(row) for row in _FACTS["commands"]}
 
@@ -149,7 +139,7 @@ def _command(row: dict[str, Any]) -> Command:
         needed=tuple(row["needed"]),
         inputs=tuple(row["inputs"]),
         outputs=tuple(row["outputs"]),
-        usage=_usage(row),
+        usage=row["usage"],
     )
 
 

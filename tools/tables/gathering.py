@@ -119,7 +119,7 @@ class Gathering:
         worded = {port["address"]: port["width"] for port in ports}
         bytes_of = {address + more for address, width in worded.items() for more in range(width)}
         for what, those in (("acting port", self.of.actions), ("shown port", self.of.shown_ports())):
-            must_agree([], [f"{port:02x}" for port in those if port not in bytes_of], what)
+            must_agree([f"{port:02x}" for port in those if port not in bytes_of], [], what)
         for name, (address, width) in self.of.port_names.items():
             if name != "VOICE_PORTS" and worded.get(address) != width:
                 raise NotRead(f"{WORDING}: no port at {address:02x} of {width} bytes, as {name}")
@@ -142,7 +142,22 @@ class Gathering:
             "needed": [option for option, kind in choices if kind == "Required"],
             "inputs": self.of.named_files("inputs_of", variant),
             "outputs": self.of.named_files("outputs_of", variant),
+            "usage": " ".join([*self._first_words(name, choices), *self._optional_words(name, choices)]),
+            "short_usage": " ".join(self._first_words(name, choices)),
         }
+
+    def _first_words(self, command: str, choices: list[tuple[str, str]]) -> list[str]:
+        """A usage line up to the options that the command needs."""
+        needed = [self._signed(command, option) for option, kind in choices if kind == "Required"]
+        return ["uxn", command, self.words["commands"][command]["operand"], *needed]
+
+    def _optional_words(self, command: str, choices: list[tuple[str, str]]) -> list[str]:
+        return [f"[{self._signed(command, option)}]" for option, kind in choices if kind != "Required"]
+
+    def _signed(self, command: str, option: str) -> str:
+        """An option with the sign of its value."""
+        rows: list[Json] = [row for row in self.words["options"] if row["name"] == option and command in row["of"]]
+        return " ".join([f"--{option}", *(row["value"] for row in rows if "value" in row)])
 
     def options(self) -> list[Json]:
         rows: list[Json] = self.words["options"]

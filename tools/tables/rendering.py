@@ -55,21 +55,8 @@ def ports(device: str) -> Callable[[Json], str]:
 
 
 def commands(facts: Json) -> str:
-    rows = ((f"`{usage(facts, row, with_optional=False)}`", row["does"]) for row in facts["commands"])
+    rows = ((f"`{row['short_usage']}`", row["does"]) for row in facts["commands"])
     return table(("command", "what it does"), rows)
-
-
-def usage(facts: Json, command: Json, with_optional: bool = True) -> str:
-    """The usage line of a command."""
-    words = ["uxn", command["name"], command["operand"]]
-    for name in (*command["needed"], *(name for name in command["options"] if name not in command["needed"])):
-        row = next(row for row in facts["options"] if row["name"] == name and command["name"] in row["of"])
-        text = f"--{name} {row['value']}".rstrip()
-        if name in command["needed"]:
-            words.append(text)
-        elif with_optional:
-            words.append(f"[{text}]")
-    return " ".join(words)
 
 
 def options(facts: Json) -> str:
