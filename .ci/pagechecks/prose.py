@@ -37,7 +37,7 @@ WORDS = {
 }
 BANNED = re.compile(r"(?i)(?<![\w-])(?:" + "|".join(WORDS) + r")(?![\w-])")
 SPEED = re.compile(r"(?i)\b(?:speed|(?:fast|slow|quick)(?:er|est|ly)?)\b")
-MEASURED = "docs/measurements.md"
+MEASURED = "docs/dev/measurements.md"
 HIDDEN = re.compile(r"\$ |(?:\./)?uxn |uxn-[a-z-]+ |rt ")
 
 

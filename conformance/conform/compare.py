@@ -7,7 +7,7 @@ import re
 import tempfile
 import time
 from collections.abc import Iterator
-from dataclasses import dataclass
+from dataclasses import dataclass, replace
 
 from conform import differences, execute, random_roms, second, shrink, tests
 from conform.cli import Failure
@@ -92,7 +92,7 @@ def made_smaller(program: Program, emulators: Emulators) -> Program:
     if program.events:
 
         def with_events(events: list[tests.Event]) -> Program:
-            return random_roms.replace(program, events=events)
+            return replace(program, events=events)
 
         program = with_events(
             shrink.fewer(program.events, lambda events: emulators.differ(with_events(events)), trials)

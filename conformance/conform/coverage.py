@@ -6,7 +6,7 @@ import re
 import tempfile
 import textwrap
 from collections import Counter
-from collections.abc import Callable
+from collections.abc import Callable, Sequence
 from concurrent.futures import ThreadPoolExecutor
 from dataclasses import dataclass, field
 
@@ -84,7 +84,7 @@ def fault_kinds() -> list[str]:
     return sorted({kind for cell in found for kind in cell.split(", ")} - {"IncludeHere"})
 
 
-def rows_of(heads: list[str], columns: list[str], number: Callable[[int, int], int]) -> list[str]:
+def rows_of(heads: Sequence[str], columns: Sequence[str], number: Callable[[int, int], int]) -> list[str]:
     """A block of text with a number for each row and column."""
     lines = ["".join([" " * len(heads[0]), *(f"{column:>5}" for column in columns)])]
     for row, head in enumerate(heads):

@@ -200,16 +200,15 @@ def screen_piece(rng: random.Random, profile: bool) -> str:
     address = write2(0x2C, 0x0100 + rng.randrange(256))
     small = join(write2(0x28, rng.randrange(40)), write2(0x2A, rng.randrange(40)))
     shown = show(*range(0x28, 0x2E))
-    return rng.choice(
-        (
-            lambda: join(place, automatic, write1(0x2E, rng.randrange(4) | 0x40 * rng.randrange(2)), shown),
-            lambda: join(small, write1(0x2E, 0x80 | rng.randrange(128) & 0x73)),
-            *[lambda: join(place, automatic, address, write1(0x2F, rng.randrange(256)), shown)] * 4,
-            lambda: join(
-                place, write1(0x26, rng.randrange(8)), address, write1(0x2F, rng.randrange(256) & 0xCF), shown
-            ),
-        )
-    )()
+    makers: tuple[Callable[[], str], ...] = (
+        lambda: join(place, automatic, write1(0x2E, rng.randrange(4) | 0x40 * rng.randrange(2)), shown),
+        lambda: join(small, write1(0x2E, 0x80 | rng.randrange(128) & 0x73)),
+        *[lambda: join(place, automatic, address, write1(0x2F, rng.randrange(256)), shown)] * 4,
+        lambda: join(
+            place, write1(0x26, rng.randrange(8)), address, write1(0x2F, rng.randrange(256) & 0xCF), shown
+        ),
+    )
+    return rng.choice(makers)()
 
 
 def screen(rng: random.Random, profile: bool) -> Program:
@@ -229,15 +228,14 @@ def system_piece(rng: random.Random) -> str:
     record = bytes([operation]) + b"".join(value.to_bytes(2, "big") for value in (length, banks[0], first))
     record += bytes([rng.randrange(256)]) if operation == 0 else banks[1].to_bytes(2, "big") + second.to_bytes(2, "big")
     at = 0x0300 + rng.randrange(4)
-    return rng.choice(
-        (
-            *[lambda: join(poke(at, record), write2(0x02, at), "dump")] * 4,
-            lambda: join(
-                write2(0xD0 + rng.randrange(47), number(rng, 2)), show(*range(0xD0, 0xE0)), show(*range(0xF0, 0x100))
-            ),
-            lambda: join(write2(rng.choice((0x06, 0x08, 0x0A, 0x0C)), number(rng, 2)), show(*range(0x06, 0x0E))),
-        )
-    )()
+    makers: tuple[Callable[[], str], ...] = (
+        *[lambda: join(poke(at, record), write2(0x02, at), "dump")] * 4,
+        lambda: join(
+            write2(0xD0 + rng.randrange(47), number(rng, 2)), show(*range(0xD0, 0xE0)), show(*range(0xF0, 0x100))
+        ),
+        lambda: join(write2(rng.choice((0x06, 0x08, 0x0A, 0x0C)), number(rng, 2)), show(*range(0x06, 0x0E))),
+    )
+    return rng.choice(makers)()
 
 
 def system(rng: random.Random) -> Program:
@@ -254,15 +252,14 @@ def file_piece(rng: random.Random) -> str:
     base = rng.choice((0xA0, 0xB0))
     length = write2(base + 10, rng.choice((0, 1, 3, 8, 16)))
     shown = show(base + 2, base + 3)
-    return rng.choice(
-        (
-            lambda: join(f";name-{rng.randrange(6)} #{base + 8:02x} DEO2", shown),
-            lambda: join(length, f";area #{base + 12:02x} DEO2", shown, "dump"),
-            lambda: join(length, f";text #{base + 14:02x} DEO2", shown),
-            lambda: write1(base + 7, rng.randrange(2)),
-            lambda: join(length, f";area #{base + 4:02x} DEO2", "dump"),
-        )
-    )()
+    makers: tuple[Callable[[], str], ...] = (
+        lambda: join(f";name-{rng.randrange(6)} #{base + 8:02x} DEO2", shown),
+        lambda: join(length, f";area #{base + 12:02x} DEO2", shown, "dump"),
+        lambda: join(length, f";text #{base + 14:02x} DEO2", shown),
+        lambda: write1(base + 7, rng.randrange(2)),
+        lambda: join(length, f";area #{base + 4:02x} DEO2", "dump"),
+    )
+    return rng.choice(makers)()
 
 
 def files(rng: random.Random) -> Program:

@@ -263,13 +263,11 @@ class Tables(ToolTest):
         wanted = {device: ports.declaration(device) for device in ports.DEVICES}
         for device, base in (("Audio1", "40"), ("Audio2", "50"), ("Audio3", "60")):
             self.assertEqual(wanted.pop(device), wanted["Audio0"].replace("|30 @Audio0", f"|{base} @{device}"))
-        # Its port only stores, and has no name there.
-        wanted["Controller"] = wanted["Controller"].replace("&func $1", "&pad $1")
         self.assertEqual(declarations(pages), wanted)
         named = {(port.address, port.width): port.name for port in ports.PORTS}
         rows = rows_of_ports(pages)
         self.assertEqual({name: rows.get(name) for name in rows}, {name: named.get(name) for name in rows})
-        self.assertEqual(unnamed(rows), {"vector", "metadata", "func"})
+        self.assertEqual(unnamed(rows), set())
         vectors = re.search(r"(?s)\| vector \| runs at \|\n(.*?)\n\n", pages)
         assert vectors
         run = re.findall(r"`([0-9a-f]{2})\*`", "".join(row for row in vectors[1].split("\n") if "never" not in row))

@@ -235,7 +235,7 @@ class ConditionsTest(ToolTest):
         return self.call(CONDITIONS, "--top", self.folder).stdout.decode().splitlines()[-1]
 
     def test_public_functions_alone(self) -> None:
-        page = self.read("docs/conditions.md").decode()
+        page = self.read("docs/dev/conditions.md").decode()
         self.assertIn("\nThing::take\n    at < 4\nhalf\n    even: number % 2 ≡ 0\n", page)
         self.assertNotIn("hide", page)
         self.assertNotIn("private", page)

@@ -199,7 +199,7 @@ def _number(text: str, size: int, comparison: str) -> bytes:
         return bytes.fromhex(text)
     if not DECIMAL.fullmatch(text):
         raise Wrong(f"`{text}` is no value: it has {digits} hexadecimal digits, or is decimal with its sign, as +18")
-    number, limit = int(text), 256**size
+    number, limit = int(text), 1 << 8 * size
     if not -limit // 2 <= number < limit:
         raise Wrong(f"`{text}` is no number from {-limit // 2} to {limit - 1}")
     if number < 0 and comparison not in EQUALITIES:

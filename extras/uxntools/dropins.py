@@ -13,9 +13,10 @@ from collections.abc import Iterator
 
 from uxntools import attached, files, includes, program, script, source, symbols
 from uxntools.cli import Failure, shown
+from uxntools.facts import LIMITS
 
 REFUSAL = re.compile(r"source (?:(?P<path>.*) )?(?P<place>\d+:\d+): (?P<kind>[A-Z]\w+): (?P<word>.*)", re.DOTALL)
-MOST_BUDGET = 4_294_967_295
+MOST_BUDGET = LIMITS.budget
 OUTPUT_CLASHES = 135
 
 

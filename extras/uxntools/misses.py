@@ -47,7 +47,8 @@ class Finder:
         self.expects = script.expects(data)
         self.scratch = scratch
         self.counts: dict[int, tuple[int, int]] = {}
-        self.name, self.names = run.words[0], {}
+        self.name = run.words[0]
+        self.names: dict[str, str] = {}
         if "--rom" not in run.words:
             self.name, self.names = source.linked(self.name, self._path("sources"), run.folder)
 

@@ -6,7 +6,7 @@ from collections.abc import Iterable
 
 from uxntools.facts import DEVICES, PORTS, VECTORS, Port
 
-__all__ = ["DEVICES", "PORTS", "VECTORS", "Port", "declaration", "port_at"]
+__all__ = ["DEVICES", "PORTS", "VECTORS", "Port", "declaration", "is_of_device", "labels", "port_at"]
 
 # The names that the devices have in most sources.
 NAMED = re.compile(r"(System|Console|Screen|Audio\d*|Controller|Mouse|File\d*|DateTime)(/.*)?", re.DOTALL)

@@ -21,7 +21,8 @@ class Label:
 
 def read(data: bytes) -> list[Label]:
     """The labels of a symbol file: two bytes of address, the name, and a zero byte for each."""
-    labels, at = [], 0
+    labels: list[Label] = []
+    at = 0
     while at < len(data):
         end = data.find(b"\0", at + 2)
         if end < 0:

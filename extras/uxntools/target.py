@@ -309,8 +309,8 @@ class Workspace:
         rows = [replace(row, path=self.path_of(row.path)) for row in found]
         names = dict.fromkeys([path, *(row.path for row in found)])
         texts = {self.path_of(name): lines_of(_data(self.path(name))) for name in names}
-        words = (word.text for word in source.flat_words(self.path(path), os.path.dirname(self.path(path))))
-        return Program(rows, self._labels(made["symbols"]), texts, ports.labels(words))
+        flat = source.flat_words(self.path(path), os.path.dirname(self.path(path)))
+        return Program(rows, self._labels(made["symbols"]), texts, ports.labels(word.text for word in flat))
 
     def _rom_program(self) -> Program:
         """Of a ROM the lines are those of its disassembly, where it has one: `uxn dis` takes 65,280 bytes."""

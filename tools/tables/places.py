@@ -75,8 +75,8 @@ def with_patterns(text: str, patterns: dict[str, str]) -> str:
     """The grammar with each regular expression in the rule that a comment names."""
     for name, pattern in patterns.items():
         rule = re.compile(rf'("comment": "facts: {name}",\s*"match": )"(?:[^"\\]|\\.)*"')
-        quoted = json.dumps(pattern)
-        text, count = rule.subn(lambda found, quoted=quoted: found[1] + quoted, text)
+        quoted = json.dumps(pattern).replace("\\", r"\\")
+        text, count = rule.subn(rf"\g<1>{quoted}", text)
         if count != 1:
             raise NotRead(f"{GRAMMAR}: there is no rule `facts: {name}`")
     return text

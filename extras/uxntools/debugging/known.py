@@ -152,7 +152,7 @@ class Known:
 
     def _span(self, moment: int, breaks: frozenset[int]) -> Span | None:
         """Moments in a row, with this one, of which it is known which are at a break."""
-        spans: list[Span] = [*self._trails, *self._stops.get(breaks, ())]
+        spans = (*self._trails, *self._stops.get(breaks, ()))
         return next((span for span in spans if span.first <= moment < span.behind), None)
 
     def _next(self, moment: int, breaks: frozenset[int]) -> tuple[int | None, int]:

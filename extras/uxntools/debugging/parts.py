@@ -86,7 +86,8 @@ class Parts:
         return max(SHORTEST, int(FULL * self.room / max(each, 1e-9)))
 
     def _begin(self, first: int, last: int, follow: Callable[[Part], Found]) -> Future[tuple[Part, Found]]:
-        return self._pool.submit(self._followed, first, last, self.horizon.to(last), follow)
+        reach = self.horizon.to(last)
+        return self._pool.submit(lambda: self._followed(first, last, reach, follow))
 
     def show(self, commands: Sequence[str], reach: Reach) -> bytes:
         """What commands show, without labels."""

@@ -8,6 +8,7 @@ import sys
 from uxntools import cli, files, program
 from uxntools.cli import Failure
 from uxntools.explaining import arguments, call
+from uxntools.facts import COMMANDS
 
 DESCRIPTION = """Runs a call of uxn and, if it is refused, explains why and what to write in its place:
 
@@ -58,7 +59,7 @@ def say(text: str) -> None:
 
 def is_call(words: list[str]) -> bool:
     """Whether the words are those of a call: `uxn` and more, a command of it, or several words."""
-    return os.path.basename(words[0]) == "uxn" or words[0] in arguments.COMMANDS or len(words) > 1
+    return os.path.basename(words[0]) == "uxn" or words[0] in COMMANDS or len(words) > 1
 
 
 def main() -> int:

@@ -277,7 +277,8 @@ class Follower:
     ) -> tuple[dict[int, list[Stop]], int]:
         """The unknown segments, stepped through in one session as far as it has room; and the first one for which it
         has none."""
-        commands, at, taken = [], 0, []
+        commands: list[str] = []
+        at, taken = 0, []
         for segment in unknown:
             if len(commands) + lengths[segment] + 8 > MOST_STEPS:
                 break

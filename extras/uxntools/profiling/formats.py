@@ -51,7 +51,7 @@ def callgrind(found: Profile, name: str) -> str:
     out += ["events: Instructions", f"summary: {found.found.goal}", ""]
     own, calls = _own_lines(found), _calls(found)
     for routine, label in enumerate(found.names):
-        lines, called = own.get(routine, {}), calls.get(routine, {})
+        lines, called = own.get(routine, Counter()), calls.get(routine, {})
         if not lines and not called:
             continue
         path, first = _place(found, routine)

@@ -239,8 +239,8 @@ def main() -> int:
     if given.junit:
         write_junit(given.junit, reporter.outcomes, start)
     if given.html:
-        made = Page(reporter.outcomes, time.monotonic() - start, given.cover).made()
-        files.write(given.html, made.encode(errors="replace"))
+        page = Page(reporter.outcomes, time.monotonic() - start, given.cover).made()
+        files.write(given.html, page.encode(errors="replace"))
     failed = next((it for it in reporter.outcomes if not it.has_passed), None)
     if given.debug and failed:
         opening.debug(failed.test, failed.result)
