@@ -108,10 +108,10 @@ class Profile(ToolTest):
             with self.subTest(name):
                 self.write("a.tal", source)
                 self.write("a.script", script)
-                self.compare(Target("a.tal", script="a.script", folder=self.folder, budget="40000"))
+                self.compare(Target("a.tal", script="a.script", folder=self.folder, budget="9000"))
 
     def test_the_examples(self) -> None:
-        for name in ("bounce", "calculator", "wordcount", "keys", "paint"):
+        for name in ("bounce", "calculator", "keys"):
             with self.subTest(name):
                 self.compare(Target(f"{name}.tal", script=f"{name}.script", folder=EXAMPLES))
 

@@ -540,7 +540,7 @@ class Keeping(Suite):
         self.write("lib/a.tal", 'LIT "x #18 DEO')
         self.assertIn("2 passed", self.run_tests())
         self.write("lib/a.tal", "#1")
-        self.assertIn("0 passed, 2 failed", self.run_tests(status=1))
+        self.assertIn("0 passed, 0 failed, 2 not run", self.run_tests(status=1))
 
     def test_what_is_wanted_counts(self) -> None:
         files(self, win_out="c")

@@ -7,7 +7,7 @@ from collections.abc import Sequence
 from uxntools import log
 from uxntools.cli import Failure
 from uxntools.debugging.session import Record, Session
-from uxntools.testing import updating
+from uxntools.testing import comparing, updating
 from uxntools.testing.discovery import discover
 from uxntools.testing.running import run
 
@@ -89,7 +89,8 @@ def record_outputs(name: str) -> list[str]:
     the files that were written."""
     try:
         test = discover([name])[0]
-        made = updating.recording(test, run(test), frozenset())
+        result = run(test)
+        made = updating.recording(test, result, frozenset(), comparing.faults(test, result))
     except Failure:
         return []
     if made.refused:
