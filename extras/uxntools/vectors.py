@@ -10,7 +10,8 @@ from dataclasses import dataclass, field, replace
 
 from uxntools import events, executed, log, moments, script
 from uxntools.cli import Failure
-from uxntools.horizon import BUDGET, Horizon
+from uxntools.facts import LIMITS
+from uxntools.horizon import Horizon
 from uxntools.log import MOST_COMMANDS
 from uxntools.stores import Watched
 from uxntools.target import Program, Workspace
@@ -128,7 +129,7 @@ class Follower:
     ) -> None:
         self.workspace, self.loaded, self.watched = workspace, loaded, watched
         self.total, self.cuts, self.count = (int(counts[name]) for name in ("instructions", "cuts", "vectors"))
-        self.budget = int(workspace.target.budget or BUDGET)
+        self.budget = int(workspace.target.budget or LIMITS.usual_budget)
         self.data = data
         self.looks = ["ports", *(command for it in watched for command in it.commands())]
 

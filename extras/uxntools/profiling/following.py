@@ -9,7 +9,7 @@ from dataclasses import dataclass, field
 
 from uxntools import moments, report
 from uxntools.cli import Failure
-from uxntools.horizon import BUDGET
+from uxntools.facts import LIMITS
 from uxntools.log import MOST_COMMANDS
 from uxntools.profiling import code as codes
 from uxntools.profiling.code import Code, Kind, Step
@@ -89,7 +89,7 @@ class Follower:
         counts = report.read(workspace.play(workspace.script(), "report")["report"])
         self.total, self.cuts = int(counts["instructions"]), int(counts["cuts"])
         self.goal = min(self.total, most)
-        self.budget = int(workspace.target.budget or BUDGET)
+        self.budget = int(workspace.target.budget or LIMITS.usual_budget)
         self.walker = Walker(code, routines.routine_of)
         self.walk = Walk()
         self.found = Followed(total=self.total, goal=self.goal)
