@@ -8,6 +8,7 @@ import { Debugger } from './debug.js';
 import { DebugView } from './debugview.js';
 import { definitionOf, scopeAt } from './definitions.js';
 import { Editor } from './editor.js';
+import { filmOf, zipOf } from './exports.js';
 import { meaningOf, placeOfColumn } from './faults.js';
 import { Film } from './film.js';
 import { Live } from './live.js';
@@ -17,7 +18,7 @@ import { bytesOfFile, linkOf, NO_SETTINGS, projectOf, projectOfLink, Store } fro
 import { Runner } from './runner.js';
 import { composeScript } from './script.js';
 import { fillList, isProgram, readSettings, showSettings } from './settings.js';
-import { Sound } from './sound.js';
+import { Sound, wavOf } from './sound.js';
 import { makeTabs, markTab } from './tabs.js';
 import { Tester, testsOf } from './testing.js';
 import { TestsView } from './testsview.js';
@@ -121,6 +122,9 @@ class Page {
     onClick('delete', () => this.deleteProject());
     onClick('share', () => this.share());
     onClick('save-rom', () => this.saveRom());
+    onClick('save-project', () => this.saveProject());
+    onClick('save-film', () => this.saveFilm());
+    onClick('save-sound', () => this.saveSound());
     onClick('add', () => this.addFile());
     onClick('rename', () => this.renameFile());
     onClick('remove', () => this.removeFile());
@@ -497,7 +501,31 @@ class Page {
   }
 
   saveRom() {
-    if (this.rom) save(this.project.main.replace(/\.tal$/, '.rom'), this.rom);
+    if (this.rom) save(this.nameOfFile('.rom'), this.rom);
+  }
+
+  async saveProject() {
+    save(`${this.project.name}.zip`, await zipOf(this.sources().files));
+  }
+
+  /** The film as far as it has come. */
+  async saveFilm() {
+    const button = byId('save-film');
+    button.disabled = true;
+    save(this.nameOfFile('.png'), await filmOf([...this.film.shown]), 'image/png');
+    button.disabled = false;
+  }
+
+  saveSound() {
+    save(this.nameOfFile('.wav'), wavOf(this.sound.samples), 'audio/wav');
+  }
+
+  /**
+   * The program's name with another ending.
+   * @param {string} end
+   */
+  nameOfFile(end) {
+    return `${this.project.main.replace(/\.\w+$/, '')}${end}`;
   }
 
   /** @param {string} path */
