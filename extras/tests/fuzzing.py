@@ -226,6 +226,7 @@ def call_of(rng: random.Random, world: World) -> Call:
         "uxn-fuzz": (["game.tal", "--runs", "3", "--jobs", "1", *rng.choice(([], ["--root", "root"], ["--against", "a.rom"]))], b""),
         "uxn-lint": (["game.tal"], b""),
         "uxn-listing": (["game.tal", *rng.choice(([], ["--out", "out.rom"]))], b""),
+        "uxn-dap": ([], messages(rng, world)),
         "uxn-lsp": ([], messages(rng, world)),
         "uxn-manual": ([rng.choice(("uxn.1", "uxn-script.5", "none"))], b""),
         "uxn-misses": (["game.tal", "--budget", "400", *script], b""),
