@@ -84,5 +84,5 @@ _uxn_sandbox() {
 complete -o filenames -F _uxn uxn
 complete -o filenames -F _uxn_sandbox uxn-sandbox
 complete -o filenames -F _uxn_tool uxn-test uxn-misses uxn-record uxn-watch uxn-trace uxn-listing uxn-cover uxn-needs \
-    uxn-fuzz uxn-profile uxn-film uxn-check uxn-debug uxn-lsp uxn-lint uxn-fmt uxn-explain uxn-frames-to-png uxn-samples-to-wav \
-    uxn-text-to-script uxn-manual
+    uxn-fuzz uxn-profile uxn-film uxn-check uxn-debug uxn-dap uxn-lsp uxn-lint uxn-fmt uxn-explain uxn-frames-to-png \
+    uxn-samples-to-wav uxn-text-to-script uxn-manual

@@ -233,11 +233,15 @@ def for_debian(built: Built) -> Entries:
         entries[f"{folder}/uxntal-mode-{name}.el"] = Entry(text)
     entries[f"{PAGES}/changelog.gz"] = Entry(packed(debian_changelog().encode()))
     entries["share/lintian/overrides/uxn"] = Entry(read("extras/packaging/overrides"))
-    python = (b"#!/usr/bin/env python3\n", b"#!/usr/bin/python3\n")
-    return {
-        f"usr/{path}": replace(entry, data=entry.data.replace(*python, 1)) if entry.data.startswith(python[0]) else entry
-        for path, entry in entries.items()
-    }
+    return {f"usr/{path}": replace(entry, data=with_python_of_debian(entry.data)) for path, entry in entries.items()}
+
+
+def with_python_of_debian(data: bytes) -> bytes:
+    """A tool whose first line names Debian's Python."""
+    for start in (b"#!/usr/bin/env -S python3", b"#!/usr/bin/env python3"):
+        if data.startswith(start):
+            return b"#!/usr/bin/python3" + data.removeprefix(start)
+    return data
 
 
 def wrapped(item: str) -> str:

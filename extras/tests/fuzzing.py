@@ -226,6 +226,7 @@ def call_of(rng: random.Random, world: World) -> Call:
         "uxn-fuzz": (["game.tal", "--runs", "3", "--jobs", "1", *rng.choice(([], ["--root", "root"], ["--against", "a.rom"]))], b""),
         "uxn-lint": (["game.tal"], b""),
         "uxn-listing": (["game.tal", *rng.choice(([], ["--out", "out.rom"]))], b""),
+        "uxn-dap": ([], messages(rng, world)),
         "uxn-lsp": ([], messages(rng, world)),
         "uxn-manual": ([rng.choice(("uxn.1", "uxn-script.5", "none"))], b""),
         "uxn-misses": (["game.tal", "--budget", "400", *script], b""),
@@ -240,6 +241,7 @@ def call_of(rng: random.Random, world: World) -> Call:
         "uxn-watch": ([*source, where, *play], b""),
         "uxnasm": (["game.tal", "out.rom"], b""),
         "uxncli": (["a.rom", "an argument"], text),
+        "uxnemu": (["--frames", "3", *rng.choice(([], ["--to", "out.rom"])), "a.rom"], text),
     }
     assert {*os.listdir(os.path.join(EXTRAS, "bin")), *os.listdir(os.path.join(EXTRAS, "dropins"))} <= {*tools, "__pycache__"}
     name = rng.choice(sorted(tools))
@@ -290,7 +292,7 @@ def ended(words: list[str], world: World, stdin: bytes = b"", closed: tuple[int,
 
 def fault_of(call: Call, world: World, before: dict[str, tuple[object, ...]]) -> str:
     """Makes a call, and says what of it may not be; empty where all is well."""
-    folder = EXTRAS + ("/dropins" if call.words[0] in ("uxnasm", "uxncli") else "/bin")
+    folder = EXTRAS + ("/dropins" if call.words[0] in ("uxnasm", "uxncli", "uxnemu") else "/bin")
     done = ended([os.path.join(folder, call.words[0]), *call.words[1:]], world, call.stdin, call.closed)
     if done.status is None:
         return "it did not end"

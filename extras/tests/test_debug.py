@@ -225,6 +225,26 @@ class Commands(Debug):
         self.write("a.tal", "|0100 BRK |f0 @shown $1")
         self.assertEqual(self.answers("print shown", words=words)[0].splitlines()[0], f"00f0{' 00' * 16}")
 
+    def test_print_of_a_variable_beneath_devices(self) -> None:
+        """The labels of devices do not end it."""
+        self.write("a.tal", "|0000 @name $12 &end |10 @Console &vector $2 |20 @Screen &vector $2 |0100 #41 .name STZ #42 #11 STZ BRK")
+        shown = self.answers("goto 3", "print name", words=["uxn-debug", "a.tal"])
+        self.assertEqual(shown[1].split("  ")[0].split(), ["0000", "41", *["00"] * 17])
+
+    def test_frames_and_lines_of_the_script(self) -> None:
+        self.write("a.tal", "|20 @Screen &vector $2 |80 @Controller &vector $2 |0100 @main ;on-frame .Screen/vector DEO2 ;on-key .Controller/vector DEO2 BRK "
+                   "@on-frame #01 POP BRK @on-key BRK")
+        self.write("s", "# first\nframe 3\n\nkey 41\nframe 2\n")
+        shown = self.answers("where", "goto frame 2", "where", "goto s:4", "where", "next-frame", "bf", "bf", "goto frame 9", "goto x:3", "goto s:1", "back-frame",
+                             words=["uxn-debug", "a.tal", "--script", "s"])
+        moments = [re.search(r"moment (\d+)", part) for part in shown]
+        self.assertEqual([found and int(found[1]) for found in moments], [0, 10, 10, 16, 16, 17, 13, 10, None, None, 7, 0])
+        self.assertIn("before the first event\n", shown[0])
+        self.assertIn("frame 2, in event 2, s:2\n", shown[2])
+        self.assertIn("frame 3, in event 4, s:4\n", shown[4])
+        self.assertIn("the script has no frame 9", shown[8])
+        self.assertIn("x is not the script of this run", shown[9])
+
     def test_watch_finds_the_last_store(self) -> None:
         self.write("a.tal", "#01 ;x STA\n#02 ;x STA\n#0000 @loop INC2 DUP2 #3000 NEQ2 ?loop\nBRK @x 00")
         shown = self.answers(
@@ -246,7 +266,7 @@ class Commands(Debug):
         self.assertIn("port 28 00 07", shown[2])
         self.assertIn("0028 was 00 00, became 00 01 by\nmoment 5:", shown[3])
         self.assertEqual(
-            shown[4], "nothing changed 00f0 before this moment (in memory; `ports` in uxn-debug shows the ports)\n"
+            shown[4], "shown is a port, and only memory is watched: `print shown` in uxn-debug shows the port\n"
         )
 
     def test_watch_where_instructions_are_stored(self) -> None:

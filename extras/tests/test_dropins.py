@@ -1,6 +1,7 @@
 """uxnasm and uxncli of extras/dropins: three projects with the Makefiles that they have anyway, and each by itself."""
 import os
 import pty
+import resource
 import shutil
 import signal
 import subprocess
@@ -124,10 +125,10 @@ class Assembler(DropinTest):
         self.folder = self.path("other")
         self.write("main.tal", "( in another folder )\n  ~../here.tal ~../gone.tal")
         self.assertEqual(
-            self.refuse(131, "uxnasm", "main.tal", "a.rom"), "main.tal:2:16: IncludeMissing: ~../gone.tal"
+            self.refuse(1, "uxnasm", "main.tal", "a.rom"), "main.tal:2:16: IncludeMissing: ~../gone.tal"
         )
         self.write("../gone.tal", "05\n nothing")
-        self.assertEqual(self.refuse(131, "uxnasm", "main.tal", "a.rom"), "../gone.tal:2:2: UnknownName: nothing")
+        self.assertEqual(self.refuse(1, "uxnasm", "main.tal", "a.rom"), "../gone.tal:2:2: UnknownName: nothing")
 
     def test_examples_are_as_by_uxn(self) -> None:
         shutil.copytree(EXAMPLES, self.path("examples"))
@@ -142,13 +143,13 @@ class Assembler(DropinTest):
     def test_refusals_change_nothing(self) -> None:
         self.write("a.tal", "@main\n main nothing")
         self.write("a.rom", "before")
-        self.assertEqual(self.refuse(131, "uxnasm", "a.tal", "a.rom"), "a.tal:2:7: UnknownName: nothing")
+        self.assertEqual(self.refuse(1, "uxnasm", "a.tal", "a.rom"), "a.tal:2:7: UnknownName: nothing")
         self.assertEqual((self.read("a.rom"), os.path.exists(self.path("a.rom.sym"))), (b"before", False))
         self.assertIn("gone.tal", self.refuse(1, "uxnasm", "gone.tal", "a.rom"))
         self.assertIn("required", self.refuse(2, "uxnasm", "a.tal"))
         self.write("b.tal", "BRK")
-        self.refuse(135, "uxnasm", "b.tal", "b.tal")
-        self.refuse(135, "uxnasm", "b.tal", "./b.tal")
+        self.refuse(1, "uxnasm", "b.tal", "b.tal")
+        self.refuse(1, "uxnasm", "b.tal", "./b.tal")
         self.assertEqual(self.read("b.tal"), b"BRK")
         self.refuse(1, "uxnasm", "b.tal", "no/folder.rom")
         self.assertIn("uxn", self.refuse(127, "uxnasm", "b.tal", "b.rom", UXN="/gone"))
@@ -224,8 +225,58 @@ class Player(DropinTest):
             self.succeed("uxnasm", "a.tal", "a.rom")
             self.assertEqual(self.call("uxncli", "a.rom").returncode, status)
         self.assertIn("gone.rom", self.refuse(1, "uxncli", "gone.rom"))
-        self.assertEqual(self.refuse(134, "uxncli", self.write("long.rom", bytes(1_048_321))), "rom: 1048321 bytes")
-        self.refuse(2, "uxncli")
+        self.assertEqual(self.refuse(1, "uxncli", self.write("long.rom", bytes(1_048_321))), "rom: 1048321 bytes")
+        self.assertIn("is required", self.refuse(2, "uxncli"))
+        self.assertIn("no option -x", self.refuse(2, "uxncli", "-x", "a.rom"))
+        self.assertIn("Frames of a ROM", self.succeed("uxnemu", "--help"))
+        self.assertIn("The assembler", self.succeed("uxnasm", "-v"))
+
+    def test_a_call_takes_little(self) -> None:
+        """A call of a drop-in takes little more than to start Python. What it loads is compiled by the first call."""
+        self.write("a.tal", "|0100 #41 #18 DEO BRK")
+
+        def cost(*words: str) -> float:
+            """The processor time of a call, in seconds: the least of some."""
+            spent = []
+            for _ in range(8):
+                before = resource.getrusage(resource.RUSAGE_CHILDREN)
+                self.succeed(*words)
+                after = resource.getrusage(resource.RUSAGE_CHILDREN)
+                spent.append(after.ru_utime + after.ru_stime - before.ru_utime - before.ru_stime)
+            return min(spent)
+
+        bare = cost("python3", "-S", "-E", "-c", "0")
+        dropins = os.path.join(EXTRAS, "dropins")
+        for words in (["uxnasm", "a.tal", "a.rom"], ["uxncli", "a.rom"]):
+            taken = cost("python3", "-S", "-E", os.path.join(dropins, words[0]), *words[1:])
+            self.assertLess(taken, bare + 0.030, words)
+
+
+class Emulator(DropinTest):
+    def setUp(self) -> None:
+        super().setUp()
+        self.write("white.tal", "|0100 #0fff #08 DEO2 #000f #22 DEO2 #0010 #24 DEO2 ;on-frame #20 DEO2 BRK @on-frame LIT \"f #18 DEO BRK")
+        self.succeed("uxnasm", "white.tal", "white.rom")
+
+    def test_frames_and_what_it_cannot_do(self) -> None:
+        done = self.call("uxnemu", "-f", "--frames", "5", "white.rom")
+        self.assertEqual((done.returncode, done.stdout), (0, b"fffff"))
+        self.assertEqual(done.stderr, b"uxnemu: no window, keys, mouse or sound: it ran 5 frames; --to FILE.png keeps the last picture\n")
+        self.assertEqual(self.call("uxnemu", "white.rom").stdout, b"f" * 60)
+
+    def test_the_last_picture(self) -> None:
+        self.assertIn(b"is in a.png", self.call("uxnemu", "-2x", "--to", "a.png", "white.rom").stderr)
+        data = self.read("a.png")
+        self.assertEqual((data[:4], data[16:24]), (b"\x89PNG", (30).to_bytes(4, "big") + (32).to_bytes(4, "big")))
+
+    def test_its_status_and_wrong_calls(self) -> None:
+        self.write("ends.tal", "|0100 #85 #0f DEO BRK")
+        self.succeed("uxnasm", "ends.tal", "ends.rom")
+        self.assertEqual(self.call("uxnemu", "ends.rom").returncode, 5)
+        self.refuse(1, "uxnemu", "--to", "none/a.png", "ends.rom")
+        for words, why in ((["--frames", "0", "a.rom"], "no number from 1"), (["-z", "a.rom"], "no option -z"), ([], "a ROM is required")):
+            self.assertIn(why, self.refuse(2, "uxnemu", *words))
+        self.assertIn("gone.rom", self.refuse(1, "uxnemu", "gone.rom"))
 
     def test_it_ends_with_the_call(self) -> None:
         self.write("loop.tal", "|0100 @loop !loop")

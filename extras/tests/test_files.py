@@ -9,7 +9,9 @@ import time
 from collections.abc import Iterator
 
 from support import EXTRAS, ToolTest
-from uxntools import files
+from uxntools import files, plainfiles
+from uxntools.dropins import player
+from uxntools.facts import LIMITS
 
 # What opens, makes, copies or deletes a file, by the module that has it; `*` is all of it.
 ELSEWHERE = {
@@ -55,9 +57,16 @@ class Sources(ToolTest):
         found = []
         for path in paths:
             name = os.path.basename(path)
-            if name != "files.py":
+            if name not in ("files.py", "plainfiles.py"):
                 found += [f"{name}: {one}" for one in opened_elsewhere(files.read(path).decode())]
         self.assertEqual(found, [])
+
+    def test_the_limits_are_those_of_the_facts(self) -> None:
+        """What drop-ins load does not load the facts, which takes longer."""
+        texts = (plainfiles.SOURCE, plainfiles.SCRIPT, plainfiles.COMMANDS, plainfiles.SETUP)
+        self.assertEqual({kind.most for kind in texts}, {LIMITS.text})
+        self.assertEqual((plainfiles.ROM.most, plainfiles.SYMBOLS.most), (LIMITS.rom, LIMITS.symbols))
+        self.assertEqual(player.MOST_INPUT, LIMITS.events - 1)
 
     def test_the_check_finds_each_way(self) -> None:
         for text, what in (

@@ -81,6 +81,15 @@ class Layout(ToolTest):
         self.assertEqual(self.laid_out(LAID_OUT).decode(), LAID_OUT)
         self.assertEqual(self.laid_out(LOOSE, "--indent", "tab").decode().count("\n\t\tPOP ( a comment"), 1)
 
+    def test_a_loop_within_braces(self) -> None:
+        """What stands deeper than a sublabel stays so, also within braces; what stands beside it does too."""
+        loop = "@a\n  #01 ?{\n    #05\n    &loop\n      #01 SUB {\n        INC }\n      DUP ?&loop\n    POP\n    &end\n    BRK\n  }\n  BRK\n"
+        loop = loop.replace("        INC }\n", "        INC\n      }\n")
+        self.assertEqual(self.laid_out(loop).decode(), loop)
+        self.assertEqual(self.laid_out(loop.replace("      #01 SUB", "     #01   SUB")).decode(), loop.replace("    &end\n    BRK", "    &end\n    BRK"))
+        flat = "@a\n  ?{\n    &loop\n    INC !&loop\n  }\n  BRK\n"
+        self.assertEqual(self.laid_out(flat).decode(), flat)
+
     def test_in_place_and_check(self) -> None:
         self.write("a.tal", LOOSE)
         os.chmod(self.path("a.tal"), 0o640)

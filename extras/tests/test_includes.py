@@ -146,7 +146,7 @@ class IncludeRoot(ToolTest):
         self.folder = self.path("src")
         self.assertIn("Assembled a.rom", self.said(0, uxnasm, "hello.tal", "a.rom"))
         self.write("../lib/print.tal", FAULTY)
-        self.assertEqual(self.said(131, uxnasm, "hello.tal", "b.rom"), "../lib/print.tal:2:10: UnknownName: foo\n")
+        self.assertEqual(self.said(1, uxnasm, "hello.tal", "b.rom"), "../lib/print.tal:2:10: UnknownName: foo\n")
         self.assertFalse(os.path.exists(self.path("b.rom")))
 
     def test_wrong_settings(self) -> None:

@@ -61,6 +61,25 @@ say('folds', #ask('textDocument/foldingRange') > 20 and 'many' or 'few')
 vim.cmd('qall!')
 """
 
+TYPE = """
+local said = io.open('said', 'w')
+local function say(...) said:write(table.concat({...}, ' '), '\\n') said:flush() end
+vim.cmd('edit src/a\\\\ b.tal')
+say(vim.bo.filetype)
+say(vim.bo.commentstring)
+vim.fn.cursor(1, 16)
+say(vim.fn.expand('<cword>'))
+vim.fn.cursor(2, 4)
+vim.cmd('normal gf')
+say(vim.fn.expand('%:t'))
+vim.cmd('edit src/a\\\\ b.tal')
+vim.cmd('silent make')
+local one = vim.fn.getqflist()[1]
+say(one.lnum, one.col, one.text)
+say(vim.fn.fnamemodify(vim.fn.bufname(one.bufnr), ':t'))
+vim.cmd('qall!')
+"""
+
 
 @needs("nvim")
 class Neovim(ToolTest):
@@ -114,3 +133,18 @@ class Neovim(ToolTest):
         self.assertIn("\n\tBRK", self.read("life.tal").decode())
         self.succeed("uxn", "asm", "life.tal", "--out", "after")
         self.assertEqual(self.read("after"), self.read("before"))
+
+    def test_the_file_type(self) -> None:
+        """Comments, words, the file of an include word, and `:make`."""
+        self.write("src/a b.tal", "|0100 @main print/line BRK\n~lib/print.tal\n")
+        self.write("lib/print.tal", "@print\n\t&line nothing JMP2r\n")
+        self.write("uxn-test.toml", 'include-from = "."\n')
+        self.write("type.lua", TYPE)
+        self.call(
+            "nvim", "--headless", "-n", "-i", "NONE", "-u", "NONE", "--cmd", f"set rtp^={EXTRAS}/vim",
+            "--cmd", "filetype plugin indent on", "-c", "luafile type.lua", seconds=60,
+        )
+        self.assertEqual(
+            self.read("said").decode().splitlines(),
+            ["uxntal", "( %s )", "print/line", "print.tal", "2 8 UnknownName: nothing", "print.tal"],
+        )

@@ -108,7 +108,7 @@ class Profile(ToolTest):
             with self.subTest(name):
                 self.write("a.tal", source)
                 self.write("a.script", script)
-                self.compare(Target("a.tal", script="a.script", folder=self.folder, budget="40000"))
+                self.compare(Target("a.tal", script="a.script", folder=self.folder, budget="9000"))
 
     def test_the_examples(self) -> None:
         for name in ("bounce", "calculator", "wordcount", "keys", "paint"):
@@ -135,7 +135,7 @@ class Profile(ToolTest):
         self.assertEqual(sum(fast.own.values()), fast.found.goal)
 
     def test_code_that_changes_itself_is_found(self) -> None:
-        self.assertTrue(self.profile(CHANGING).found.is_logged)
+        self.assertTrue(self.profile(CHANGING, budget="9000").found.is_logged)
         self.assertFalse(self.profile(COMPUTED).found.is_logged)
 
     def test_the_table(self) -> None:

@@ -1,8 +1,11 @@
 """Large suites: tables of tests, choosing among tests, sources that are refused, tests that are skipped or expected to fail, and reports."""
+import base64
 import os
+import re
+import shutil
 import xml.etree.ElementTree as ElementTree
 
-from support import ToolTest
+from support import EXAMPLES, ToolTest, needs
 
 # Prints what it is given, and counts it in the port f0 and at @count.
 ECHO = "|10 @Console &vector $2 |f0 @Shown &count $1 |0000 @count $2 |0100 ;on-read .Console/vector DEO2 BRK @on-read #17 DEI #04 EQU ?{ #12 DEI #18 DEO .count LDZ2 INC2 DUP2 .count STZ2 NIP .Shown/count DEO } BRK"
@@ -208,3 +211,63 @@ class Choosing(Suite):
         os.rmdir(self.path("tests"))
         self.write("uxn-test.toml", 'program = "game.tal"\n')
         self.assertEqual(self.refuse(2, "uxn-test"), "uxn-test: tests: it is no folder of tests")
+
+
+class Page(Suite):
+    """uxn-test --html: one page, which has all in itself."""
+
+    def page(self, *words: str) -> str:
+        self.outcome(1, "--html", "p.html", *words)
+        return self.read("p.html").decode()
+
+    def test_a_page(self) -> None:
+        self.write("tests/a.script", 'input "a<b\n')
+        self.write("tests/a.out", "a<c")
+        self.write("tests/b.script", 'input "b\n')
+        self.write("tests/b.out", "b")
+        page = self.page("--cover")
+        self.assertIn("1 passed, 1 failed", page)
+        self.assertIn("<h3>tests/a</h3>", page)
+        self.assertIn("-a&lt;c", page)
+        self.assertIn("<summary>game.tal</summary>", page)
+        self.assertIn("% of", page)
+        self.assertEqual(re.findall(r'(?:src|href)="(?!data:)', page), [], "nothing from elsewhere")
+
+    def test_pictures_and_sounds(self) -> None:
+        for name in ("bounce", "chord"):
+            shutil.copy(os.path.join(EXAMPLES, f"{name}.tal"), self.path(f"{name}.tal"))
+        self.write("uxn-test.toml", '[folder.tests]\nprogram = "*.tal"\n')
+        self.write("tests/bounce.script", "frame 3\nshot\n")
+        shutil.copy(os.path.join(EXAMPLES, "chord.script"), self.path("tests/chord.script"))
+        self.write("tests/chord.samples", b"")
+        self.outcome(0, "--update")
+        self.write("tests/bounce.script", "frame 9\nshot\n")
+        self.write("tests/chord.samples", self.read("tests/chord.samples")[:400] + bytes(4000))
+        page = self.page()
+        self.assertEqual(page.count('<input type="range"'), 1)
+        self.assertEqual(page.count("<audio controls"), 2)
+        found = re.findall(r'src="data:image/png;base64,([^"]*)"', page)
+        self.assertEqual([base64.b64decode(data)[:8] for data in found], [b"\x89PNG\r\n\x1a\n"] * 4)
+
+    def test_refused_skipped_and_wrong_calls(self) -> None:
+        self.write("game.tal", "#1")
+        self.write("tests/a.out", "")
+        self.write("tests/b.out", "")
+        self.write("uxn-test.toml", '[test."tests/b"]\nskip = "not <yet>"\n')
+        page = self.page()
+        self.assertIn("game.tal is refused (source 1:1: BadNumber: #1): 1 test not run", page)
+        self.assertIn("<td>not &lt;yet&gt;</td>", page)
+        self.assertIn("--cover goes with --html", self.refuse(2, "uxn-test", "--cover"))
+
+    @needs("chromium")
+    def test_in_a_browser(self) -> None:
+        """The page is no wider than a phone, and the slider moves the picture."""
+        self.write("tests/a.script", 'input "' + 200 * "a" + "\n")
+        self.write("tests/a.out", 300 * "b")
+        self.page()
+        self.write("frame.html", '<iframe id=f src=p.html style="width:360px"></iframe><pre id=o></pre><script>f.onload=()=>{const d=f.contentDocument;'
+                   "o.textContent=`width ${d.documentElement.scrollWidth} ${d.documentElement.clientWidth}`}</script>")
+        said = self.succeed("chromium", "--headless=new", "--no-sandbox", "--disable-gpu", "--allow-file-access-from-files", "--virtual-time-budget=3000",
+                            f"--user-data-dir={self.path('profile')}", "--dump-dom", f"file://{self.path('frame.html')}")
+        found = re.search(r"width (\d+) (\d+)", said)
+        self.assertTrue(found and int(found[1]) <= int(found[2]), said[-300:])

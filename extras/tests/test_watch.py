@@ -138,7 +138,8 @@ class Watch(ToolTest):
         for where in ("Screen/x", "@Screen/x", "Screen/x+0001"):
             self.assertIn("Screen/x is a port", self.refuse(1, "uxn-watch", name, where).replace("+0001", ""))
         self.assertEqual(len(self.changes(name, "0028", "2")), 1)
-        self.assertIn("(in memory; `ports` in uxn-debug shows the ports)", self.refuse(1, "uxn-watch", name, "shown"))
+        self.assertIn("shown is a port", self.refuse(1, "uxn-watch", name, "shown"))
+        self.assertIn("(in memory; `ports` in uxn-debug shows the ports)", self.refuse(1, "uxn-watch", name, "00f0"))
 
     def test_nothing_changed_and_wrong_calls(self) -> None:
         name = self.write("a.tal", "#00 ;x STA BRK @x 00")

@@ -314,12 +314,15 @@ class Analysis:
         return b""
 
     def comment_above(self, word: Word) -> bytes:
-        """The comment that ends in the line above a word's, where that line has no words."""
+        """The comment that ends in the line above a word's, where that line has no words. The first comment of a file,
+        with nothing before it, is about the file."""
         last = word.line - 2
         first = last
         found = self.rows[word.path]
         while first >= 0 and not found[first].words and found[first].comments:
             if found[first].comments[0].begins:
+                if not any(row.words or row.comments for row in found[:first]):
+                    return b""
                 return b"\n".join(self.lines[word.path][first : last + 1]).strip()
             first -= 1
         return b""

@@ -12,11 +12,10 @@ from types import FrameType
 from typing import NoReturn
 
 from uxntools import files
+from uxntools.signs import MOST_SIGNS as MOST_SIGNS, line_of as line_of, shown as shown
 
 # How often a wait for input is broken off, in seconds.
 TICK = 0.2
-# How long a line is that names a fault, at most.
-MOST_SIGNS = 2000
 
 
 class Failure(Exception):
@@ -37,21 +36,6 @@ class Parser(argparse.ArgumentParser):
     def error(self, message: str) -> NoReturn:
         line = shown(" ".join(message.split()))
         self.exit(2, f"{self.prog}: {line} (see {self.prog} --help)\n")
-
-
-def shown(text: str, most: int = MOST_SIGNS) -> str:
-    """A text as a part of a line for the eye: what a terminal would obey is escaped, and a long text is cut."""
-    rest = len(text) - most
-    made = "".join(sign if sign.isprintable() else _escaped(sign) for sign in text[:most])
-    return made if rest <= 0 else f"{made}.. ({rest:,} signs more)"
-
-
-def _escaped(sign: str) -> str:
-    number = ord(sign)
-    if 0xDC80 <= number <= 0xDCFF:
-        number -= 0xDC00
-    named = {"\t": "\\t", "\r": "\\r", "\n": "\\n"}.get(sign)
-    return named or (f"\\x{number:02x}" if number < 256 else f"\\u{number:04x}")
 
 
 def number(least: int, most: int) -> Callable[[str], int]:
@@ -125,14 +109,6 @@ def _status(main: Callable[[], int | None], name: str) -> int:
         return _say(name, "out of memory", 138)
     except Exception as error:
         return _say(name, f"{type(error).__name__}: {error} ({_place_of(error)}): this is a mistake of {name}", 1)
-
-
-def line_of(error: OSError) -> str:
-    """What is said of a file that fails."""
-    name = error.filename
-    path = os.fsdecode(name) if isinstance(name, (str, bytes)) else "" if name is None else f"standard stream {name}"
-    why = error.strerror or str(error)
-    return f"{path}: {why}" if path else why
 
 
 def _place_of(error: BaseException) -> str:

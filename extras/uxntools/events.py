@@ -60,6 +60,19 @@ def place_of(data: bytes, event: int) -> Place:
     return Place(event, None, 0, frames)
 
 
+def of_frame(data: bytes, frame: int) -> int | None:
+    """The event that is a frame, which counts from 1; None if the script has fewer frames."""
+    event = 0
+    for words in _lines(data):
+        size = number_of(words)
+        if words[0] == b"frame":
+            if frame <= size:
+                return event + frame
+            frame -= size
+        event += size
+    return None
+
+
 def before(data: bytes, line: int) -> int:
     """How many events come before a line of a script."""
     return sum(number_of(words) for number, words in script.lines(data) if number < line)

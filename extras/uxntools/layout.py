@@ -91,7 +91,9 @@ class _Lines:
         self.pad: Place | None = None
         self.label: Place | None = None
         self.sublabels: list[Place] = []
+        # The levels of lines with a brace that is open, and the sublabels behind each that lines stood deeper than.
         self.open: list[int] = []
+        self.inner: list[list[Place]] = []
         self.level = 0
         self.waiting: list[int] = []
         self.comment_prefix = (b"", b"")
@@ -146,25 +148,38 @@ class _Lines:
     def _brace(self, word: bytes, level: int) -> None:
         if word in (b"{", b"[") or len(word) == 2 and word[1:] == b"{" and word[:1] in RUNES:
             self.open.append(level)
+            self.inner.append([])
         elif word in (b"}", b"]") and self.open:
             self.open.pop()
+            self.inner.pop()
 
     def _level(self, at: int, words: list[bytes], old: int) -> int:
         """The level of a line, by its first word and by whether it stood deeper than the line that it may stand
         beneath."""
         first = words[0][:1]
         if first in (b"|", b"%") or first == b"~" and not old:
-            self.open = []
+            self.open, self.inner = [], []
             return self._pad(words, old) if first == b"|" else 0
         if first == b"@":
-            self.open = []
+            self.open, self.inner = [], []
             level = int(self.pad is not None and old > self.pad.old and not self.is_flat)
             self.pad = self.pad if level else None
             self.label, self.sublabels = Place(old, level), []
             return level
         if self.open:
-            return self.open[-1] if words[0] in (b"}", b"]") else self.open[-1] + 1
+            return self.open[-1] if words[0] in (b"}", b"]") else self._within_braces(first, old)
         return self._sublabel(old, self.next_widths[at]) if first == b"&" else self._body(old)
+
+    def _within_braces(self, first: bytes, old: int) -> int:
+        """A line in braces stands beneath the line that opened them, or beneath a sublabel in them that it stood deeper
+        than."""
+        sublabels = self.inner[-1]
+        while sublabels and old <= sublabels[-1].old:
+            sublabels.pop()
+        level = sublabels[-1].level + 1 if sublabels else self.open[-1] + 1
+        if first == b"&":
+            sublabels.append(Place(old, level))
+        return level
 
     def _pad(self, words: list[bytes], old: int) -> int:
         has_label = any(word[:1] == b"@" for word in words)

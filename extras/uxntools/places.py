@@ -70,7 +70,9 @@ def is_port_label(program: Program, name: str) -> bool:
 def refuse_port(program: Program, text: str, address: int) -> None:
     """Refuses the label of a device where the stores to a byte of memory are looked for."""
     name = text.removeprefix("@")
-    if address < PORTS and is_port_label(program, os.fsencode(name).decode("latin-1")):
+    distance = DISTANCE.fullmatch(name)
+    label = os.fsencode(distance["label"] if distance else name).decode("latin-1")
+    if address < PORTS and is_port_label(program, label):
         raise Failure(f"{name} is a port, and only memory is watched: `print {name}` in uxn-debug shows the port")
 
 

@@ -4,7 +4,6 @@ from __future__ import annotations
 import os
 import re
 import resource
-import shutil
 import signal
 import subprocess
 import threading
@@ -13,7 +12,7 @@ from contextlib import contextmanager, suppress
 from dataclasses import dataclass
 from typing import IO
 
-from uxntools import files
+from uxntools import files, locating
 from uxntools.cli import Failure
 from uxntools.facts import REFUSED, STOPPED_EARLY
 
@@ -74,19 +73,12 @@ def told(done: Done, names: Mapping[str, str]) -> Done:
     return Done(done.status, done.out, os.fsencode(line))
 
 
-def past_wrapper(path: str) -> str:
-    """The program that an installed `uxn` runs, which is a short script; another one is the program itself."""
-    beside = os.path.join(os.path.dirname(os.path.realpath(path)), "..", "lib", "uxn", "uxn")
-    return os.path.realpath(beside) if os.access(beside, os.X_OK) else path
-
-
 def path_of_uxn() -> str:
     """The program: an absolute path, so that it can be called in any folder."""
-    name = os.environ.get("UXN", "uxn")
-    found = shutil.which(name)
+    found = locating.uxn()
     if found is None:
-        raise Failure(f"there is no program {name}: put uxn into PATH, or its path into UXN", 127)
-    return past_wrapper(os.path.abspath(found))
+        raise Failure(locating.missing(), 127)
+    return found
 
 
 def limit_files(process: subprocess.Popen[bytes]) -> None:

@@ -73,6 +73,14 @@ export function deflate(bytes) {
 }
 
 /**
+ * Compressed bytes with the head and the sum that a PNG has.
+ * @param {Uint8Array} bytes
+ */
+export function zlib(bytes) {
+  return through(new CompressionStream('deflate'), bytes, Infinity);
+}
+
+/**
  * What was compressed; more than `most` bytes are refused.
  * @param {Uint8Array} bytes
  * @param {number} most

@@ -173,6 +173,7 @@ export class Debugger {
       const lines = (await this.log([...to(here), look, ...backs])).slice(-2 * count - 1);
       const [after] = bytesOf(lines[0]);
       for (let at = 1; at < lines.length; at += 2) {
+        if (lines[at].startsWith('held')) throw new Error(`it goes back to moment ${here - (at - 1) / 2} and no farther`);
         const [before] = bytesOf(lines[at + 1]);
         if (before !== after) return { place: placeOf(lines[at]), before, after };
       }

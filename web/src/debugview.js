@@ -160,7 +160,7 @@ export class DebugView {
     const { places } = this.session;
     const lines = this.calls.lineBreaks().map(({ path, line }) => places.addressOf(path, line));
     const labels = this.labelBreaks.map((label) => places.addressOfText(label));
-    return [...new Set([...lines, ...labels])].filter((address) => address !== null);
+    return [...new Set([...lines, ...labels])].flatMap((address) => (address === null ? [] : [address]));
   }
 
   /** @param {View} view */

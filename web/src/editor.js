@@ -35,6 +35,8 @@ export class Editor {
     this.path = '';
     /** @type {any[]} */
     this.shown = [];
+    /** @type {any[]} */
+    this.misses = [];
     this.leaves = false;
     this.calls = calls;
     this.view = CodeMirror(parent, {
@@ -148,6 +150,26 @@ export class Editor {
     message.style.paddingLeft = `${Math.max(4, this.view.charCoords({ line, ch: from }, 'local').left)}px`;
     widget.changed();
     this.shown.push(widget);
+  }
+
+  /**
+   * Shows what missed beneath the lines of a script.
+   * @param {string} path
+   * @param {{line: number, text: string}[]} misses  Lines count from 1.
+   */
+  showMisses(path, misses) {
+    const shown = this.documents.get(path);
+    for (const { line, text } of shown ? misses : []) {
+      const message = document.createElement('div');
+      message.className = 'miss-line';
+      message.textContent = text;
+      this.misses.push(shown.addLineWidget(line - 1, message));
+    }
+  }
+
+  clearMisses() {
+    for (const each of this.misses) each.clear();
+    this.misses = [];
   }
 
   /**

@@ -8,6 +8,7 @@ import { Debugger } from './debug.js';
 import { DebugView } from './debugview.js';
 import { definitionOf, scopeAt } from './definitions.js';
 import { Editor } from './editor.js';
+import { filmOf, zipOf } from './exports.js';
 import { meaningOf, placeOfColumn } from './faults.js';
 import { Film } from './film.js';
 import { Live } from './live.js';
@@ -17,8 +18,10 @@ import { bytesOfFile, linkOf, NO_SETTINGS, projectOf, projectOfLink, Store } fro
 import { Runner } from './runner.js';
 import { composeScript } from './script.js';
 import { fillList, isProgram, readSettings, showSettings } from './settings.js';
-import { Sound } from './sound.js';
+import { Sound, wavOf } from './sound.js';
 import { makeTabs, markTab } from './tabs.js';
+import { Tester, testsOf } from './testing.js';
+import { TestsView } from './testsview.js';
 import { toBase64 } from './archive.js';
 
 /** @typedef {import('./project.js').Project} Project */
@@ -94,6 +97,12 @@ class Page {
       showLine: (place) => this.showLine(place),
       stopRun: () => this.runner.end(),
     });
+    this.tests = new TestsView(new Tester(new Machine(source, module)), {
+      source: () => ({ project: this.project, files: this.sources().files }),
+      open: (path, line) => this.openLine(path, line),
+      showMisses: (path, misses) => this.showMisses(path, misses),
+      clearMisses: () => this.editor.clearMisses(),
+    });
     this.live = new Live(byId('screen'), {
       show: (frame, picture) => this.film.showOther(frame, picture),
       stopped: (script, message) => this.liveStopped(script, message),
@@ -113,12 +122,16 @@ class Page {
     onClick('delete', () => this.deleteProject());
     onClick('share', () => this.share());
     onClick('save-rom', () => this.saveRom());
+    onClick('save-project', () => this.saveProject());
+    onClick('save-film', () => this.saveFilm());
+    onClick('save-sound', () => this.saveSound());
     onClick('add', () => this.addFile());
     onClick('rename', () => this.renameFile());
     onClick('remove', () => this.removeFile());
     onClick('fault', () => this.goToFault());
     onClick('open-files', () => byId('chooser').click());
     onClick('live', () => this.toggleLive());
+    onClick('tests-add', () => this.saveAsTest());
     onClick('sound', () => this.toggleSound());
     byId('chooser').addEventListener('change', () => this.takeFiles(byId('chooser').files));
     byId('examples').addEventListener('change', () => this.openExample(byId('examples').value));
@@ -185,6 +198,7 @@ class Page {
     this.key = key;
     this.runner.clear();
     this.debug.forget();
+    this.tests.forget();
     showChanges(byId('files'), []);
     byId('report').textContent = '';
     this.editor.load(project.files);
@@ -195,6 +209,7 @@ class Page {
     this.keep();
     this.listProjects();
     this.checker.now();
+    if (this.hasTests()) this.tests.soon();
   }
 
   /** @param {string} key */
@@ -230,6 +245,10 @@ class Page {
     }
   }
 
+  hasTests() {
+    return testsOf(this.project).length > 0;
+  }
+
   listProjects() {
     const kept = this.store.all();
     if (!kept.some(([key]) => key === this.key) && this.key) kept.push([this.key, this.project]);
@@ -240,6 +259,7 @@ class Page {
     if (this.isOpening) return;
     this.touch();
     if (this.debug.view) this.debug.forget();
+    if (this.hasTests()) this.tests.soon();
     this.checker.soon();
   }
 
@@ -303,7 +323,7 @@ class Page {
   /** @param {HTMLElement} tab */
   showResult(tab) {
     markTab(byId('results'), tab);
-    for (const name of ['console', 'report', 'files', 'debug']) byId(name).hidden = tab.id !== `tab-${name}`;
+    for (const name of ['console', 'report', 'files', 'debug', 'tests']) byId(name).hidden = tab.id !== `tab-${name}`;
   }
 
   /** @param {import('./checker.js').Checked} checked */
@@ -318,6 +338,47 @@ class Page {
     button.title = fault ? meaningOf(fault.kind) : '';
     byId('size').textContent = rom ? `ROM: ${rom.length.toLocaleString('en')} ${rom.length === 1 ? 'byte' : 'bytes'}` : 'no ROM';
     byId('save-rom').disabled = !rom;
+  }
+
+  /**
+   * @param {string} path
+   * @param {number} line  from 1
+   */
+  openLine(path, line) {
+    if (path !== this.editor.path) this.showFile(path);
+    this.editor.goTo(line - 1, 0);
+  }
+
+  /**
+   * Shows the expects of a script that missed, at their lines and in the film.
+   * @param {string} path
+   * @param {import('./testing.js').Miss[]} misses
+   */
+  showMisses(path, misses) {
+    this.editor.showMisses(path, misses);
+    if (path !== this.project.script) return;
+    this.film.misses = misses.map(({ line }) => line);
+    this.film.drawMarks();
+  }
+
+  /** The present run becomes a test: its script with what it gives. */
+  async saveAsTest() {
+    const { project } = this;
+    const { files } = this.sources();
+    if (project.main.endsWith('.setup')) return this.notice('A line of machines is no test of the page.');
+    const script = new TextDecoder().decode(files.find(([path]) => path === project.script)?.[1] ?? new Uint8Array(0));
+    const has = (/** @type {string} */ name) => files.some(([path]) => path.startsWith(`${name}.`));
+    let number = 1;
+    while (has(`tests/run-${number}`)) number += 1;
+    try {
+      const test = { name: `tests/run-${number}`, script: composeScript(script, project.settings) };
+      const made = await this.tests.tester.recorded(project, files, test);
+      for (const [path, bytes] of made) this.putFile(fileOfBytes(path, bytes));
+      this.notice(`The test ${test.name} is ${made.map(([path]) => path).join(', ')}.`, false);
+    } catch (error) {
+      this.notice(`It is no test: ${messageOf(error)}.`);
+    }
+    return this.tests.now();
   }
 
   goToFault() {
@@ -440,7 +501,31 @@ class Page {
   }
 
   saveRom() {
-    if (this.rom) save(this.project.main.replace(/\.tal$/, '.rom'), this.rom);
+    if (this.rom) save(this.nameOfFile('.rom'), this.rom);
+  }
+
+  async saveProject() {
+    save(`${this.project.name}.zip`, await zipOf(this.sources().files));
+  }
+
+  /** The film as far as it has come. */
+  async saveFilm() {
+    const button = byId('save-film');
+    button.disabled = true;
+    save(this.nameOfFile('.png'), await filmOf([...this.film.shown]), 'image/png');
+    button.disabled = false;
+  }
+
+  saveSound() {
+    save(this.nameOfFile('.wav'), wavOf(this.sound.samples), 'audio/wav');
+  }
+
+  /**
+   * The program's name with another ending.
+   * @param {string} end
+   */
+  nameOfFile(end) {
+    return `${this.project.main.replace(/\.\w+$/, '')}${end}`;
   }
 
   /** @param {string} path */

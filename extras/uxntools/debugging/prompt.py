@@ -165,7 +165,24 @@ class Prompt(cmd.Cmd):
         self.show(self.session.reverse_run())
 
     def do_goto(self, words: list[str]) -> None:
-        self.show(self.session.go_to(number(one(words), 0)))
+        if len(words) == 2 and words[0] == "frame":
+            self.show(self.session.go_to_frame(number(words[1], 1)))
+            return
+        line = places.LINE.fullmatch(one(words))
+        if line is None:
+            self.show(self.session.go_to(number(one(words), 0)))
+            return
+        if line["path"] not in (self.session.target.script, os.path.basename(self.session.target.script or "")):
+            raise Failure(f"{line['path']} is not the script of this run")
+        self.show(self.session.go_to_line(number(line["line"], 1)))
+
+    def do_next_frame(self, words: list[str]) -> None:
+        none(words)
+        self.show(self.session.next_frame())
+
+    def do_back_frame(self, words: list[str]) -> None:
+        none(words)
+        self.show(self.session.back_frame())
 
     def do_watch(self, words: list[str]) -> None:
         address, length, name = self.span(words, 1)
@@ -183,6 +200,16 @@ class Prompt(cmd.Cmd):
         none(words)
         self.session.look("where")
         self.show_place(self.session.here)
+        self.show_event()
+
+    def show_event(self) -> None:
+        """The frame and the line of the script of the present moment."""
+        if self.session.here.is_end:
+            return
+        place = self.session.place
+        name = self.session.target.script or "the script"
+        at = f"in event {place.event}, {name}:{place.line}" if place.event else "before the first event"
+        print(f"frame {place.frames}, {at}" if place.frames else at)
 
     def do_calls(self, words: list[str]) -> None:
         none(words)
@@ -362,7 +389,9 @@ COMMANDS = {
     "finish": Command(Prompt.do_finish, "", "goes on to where this subroutine returns, or to a break before", "f"),
     "back": Command(Prompt.do_back, "[N]", "goes N instructions back"),
     "reverse-run": Command(Prompt.do_reverse_run, "", "goes back to the last earlier moment at a break", "rr"),
-    "goto": Command(Prompt.do_goto, "N", "goes to moment N", "g"),
+    "goto": Command(Prompt.do_goto, "WHEN", "goes to a moment, to `frame N`, or to SCRIPT:LINE", "g"),
+    "next-frame": Command(Prompt.do_next_frame, "", "goes to where the next frame begins", "nf"),
+    "back-frame": Command(Prompt.do_back_frame, "", "goes back to where this frame, or the one before, begins", "bf"),
     "watch": Command(
         Prompt.do_watch, "WHERE [LENGTH]", "shows the last store to memory so far that changed these bytes", "w"
     ),

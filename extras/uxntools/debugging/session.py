@@ -12,6 +12,7 @@ from uxntools.debugging import backwards, frames
 from uxntools.debugging.backwards import FarStores, Near, Unsure
 from uxntools.debugging.frames import Frame
 from uxntools.debugging.known import Known
+from uxntools.events import Place
 from uxntools.facts import STOPPED_EARLY
 from uxntools.horizon import Horizon
 from uxntools.moments import State
@@ -158,6 +159,37 @@ class Session:
             self.note(f"the run ends after {state.count} instructions")
         return state
 
+    @property
+    def place(self) -> Place:
+        """The event of the present moment."""
+        return events.place_of(self.horizon.script, self.horizon.event_of(self.here.count))
+
+    def go_to_event(self, event: int) -> State:
+        """To the first moment of an event; 0 is the start."""
+        return self.go_to(self.horizon.end(event - 1) if event > 0 else 0)
+
+    def go_to_frame(self, frame: int) -> State:
+        """To the first moment of a frame."""
+        event = events.of_frame(self.horizon.script, frame) if frame > 0 else None
+        if event is None:
+            raise Failure(f"the script has no frame {frame}")
+        return self.go_to_event(event)
+
+    def go_to_line(self, line: int) -> State:
+        """To the first moment of the events of a line of the script, or of the next one that has any."""
+        return self.go_to_event(events.before(self.horizon.script, line) + 1)
+
+    def next_frame(self) -> State:
+        return self.go_to_frame(self.place.frames + 1)
+
+    def back_frame(self) -> State:
+        """To the first moment of the present frame; from there, or from another event after it, to that of the frame
+        before."""
+        frame, moment = self.place.frames, self.here.count
+        if frame and self.go_to_frame(frame).count < moment:
+            return self.here
+        return self.go_to_frame(frame - 1) if frame > 1 else self.go_to(0)
+
     def next(self) -> State:
         """One instruction, or to the return of the subroutine that it calls."""
         here = self.here
@@ -253,11 +285,15 @@ class Session:
     def length_at(self, address: int) -> int:
         """How many bytes are those of a label: up to the next one, but not too many. The last one ends with the ROM,
         with the page of the ports before it, or with the memory behind it."""
-        later = [at for at in self.program.labels.addresses if at > address]
+        later = [at for at in self.program.labels.addresses if at > address and self._ends(at, address)]
         if later:
             return min(later[0] - address, MOST_PRINTED)
         ends = (START, START + len(self.rom), 0x10000)
         return min(next(end for end in ends if address < end) - address, MOST_OF_LAST)
+
+    def _ends(self, label: int, address: int) -> bool:
+        """Whether the label at an address ends what stands at an earlier one: a device's label ends no variable."""
+        return not places.is_port(self.program, label) or places.is_port(self.program, address)
 
     def ports(self) -> bytes:
         """What the ports read at the present moment."""

@@ -86,7 +86,7 @@ def _spread(text: str) -> str:
 
 
 def _unknown_name(word: str, names: Sequence[str]) -> Reason:
-    for rule in (_mark, _of_other_assemblers, _wrong_case, _near_number, _later_macro):
+    for rule in (_mark, _of_other_assemblers, _wrong_case, _near_number, _later_macro, _near_opcode):
         found = rule(word, names)
         if found:
             return found
@@ -149,6 +149,27 @@ def _later_macro(word: str, names: Sequence[str]) -> Reason | None:
             f"the head %{word} before it",
         )
     return None
+
+
+def _near_opcode(word: str, _: Sequence[str]) -> Reason | None:
+    """A word of capitals that is an opcode with its letters in another order, or with one letter changed."""
+    found = re.fullmatch(r"([A-Z]{2,4})([2kr]*)", word)
+    if not found:
+        return None
+    letters, modes = found[1], found[2]
+    swapped = [name for name in opcodes.NAMES if sorted(name) == sorted(letters)]
+    near = swapped or [name for name in opcodes.NAMES if _is_one_change(letters, name)]
+    if not near:
+        return None
+    return Reason(f"{quoted(word)} is no opcode, and nothing of that name is defined.", ", ".join(name + modes for name in near[:4]))
+
+
+def _is_one_change(word: str, name: str) -> bool:
+    """Whether a letter that is changed, added or taken away makes one word of another."""
+    if len(word) == len(name):
+        return sum(one != other for one, other in zip(word, name)) == 1
+    longer, shorter = sorted((word, name), key=len, reverse=True)
+    return len(longer) == len(shorter) + 1 and any(longer[:at] + longer[at + 1 :] == shorter for at in range(len(longer)))
 
 
 def _unknown_label(word: str, names: Sequence[str]) -> Reason:

@@ -46,7 +46,7 @@ def _text(name: bytes) -> str:
     return name.decode("utf-8", "replace")
 
 
-def _kind(label: Label) -> int:
+def kind_of(label: Label) -> int:
     if label.word.text[:1] == b"&":
         return FIELD
     return VARIABLE if label.address < 0x100 else FUNCTION
@@ -97,7 +97,7 @@ def symbols(found: Analysis, path: str) -> list[Json]:
     for label, last in _regions(found, path):
         is_sublabel = label.word.text[:1] == b"&"
         name = label.name.partition(b"/")[2] if is_sublabel else label.name
-        symbol = _symbol(found, name, _kind(label), label.word, last)
+        symbol = _symbol(found, name, kind_of(label), label.word, last)
         if is_sublabel and parent:
             parent["children"].append(symbol)
             continue

@@ -9,7 +9,7 @@ from uxntools import facts
 from uxntools.analysis import rows
 from uxntools.cli import shown
 from uxntools.layout import laid_out
-from uxntools.lsp import completion, names, outline
+from uxntools.lsp import actions, completion, names, outline
 from uxntools.lsp.checks import Checker
 from uxntools.lsp.documents import Document, path_of, units
 from uxntools.lsp.hover import hover
@@ -36,6 +36,10 @@ CAPABILITIES = {
     "documentSymbolProvider": True,
     "foldingRangeProvider": True,
     "documentFormattingProvider": True,
+    "documentRangeFormattingProvider": True,
+    "workspaceSymbolProvider": True,
+    "inlayHintProvider": True,
+    "codeActionProvider": {"codeActionKinds": ["quickfix"]},
     "completionProvider": {"triggerCharacters": [*facts.RUNES, *"&/~|"]},
     "renameProvider": {"prepareProvider": True},
     "semanticTokensProvider": {
@@ -51,7 +55,7 @@ class Server:
         self.channel = channel
         self.workspace = Workspace()
         self.checker = Checker(self._publish, self._complain)
-        self.is_initialized = self.is_shut_down = self.has_inner_symbols = False
+        self.is_initialized = self.is_shut_down = self.has_inner_symbols = self.has_hints = False
         self.complaints: set[str] = set()
         self.requests: dict[str, Callable[[Json], Any]] = {
             "initialize": self._initialize,
@@ -70,6 +74,10 @@ class Server:
             },
             "textDocument/semanticTokens/range": self._tokens_of_range,
             "textDocument/formatting": self._format,
+            "textDocument/rangeFormatting": self._format_range,
+            "textDocument/inlayHint": self._hints,
+            "textDocument/codeAction": self._actions,
+            "workspace/symbol": lambda given: actions.workspace_symbols(self.workspace, given["query"]),
         }
         self.notifications: dict[str, Callable[[Json], None]] = {
             "textDocument/didOpen": self._open,
@@ -77,6 +85,9 @@ class Server:
             "textDocument/didSave": self._save,
             "textDocument/didClose": self._close,
             "workspace/didChangeWatchedFiles": self._files_changed,
+            "workspace/didChangeConfiguration": lambda given: self._configure(
+                (given.get("settings") or {}).get("uxn") or {}
+            ),
         }
 
     def run(self) -> int:
@@ -137,8 +148,14 @@ class Server:
         self.workspace.top = self.checker.top = path_of(roots[0]) if roots[0] else params.get("rootPath")
         symbols = params.get("capabilities", {}).get("textDocument", {}).get("documentSymbol", {})
         self.has_inner_symbols = bool(symbols.get("hierarchicalDocumentSymbolSupport"))
+        self._configure(params.get("initializationOptions") or {})
         self.is_initialized = True
         return {"capabilities": CAPABILITIES, "serverInfo": {"name": "uxn-lsp"}}
+
+    def _configure(self, settings: Json) -> None:
+        """Takes the settings of the editor: whether effects are shown beside calls."""
+        if isinstance(settings.get("inlayHints"), bool):
+            self.has_hints = settings["inlayHints"]
 
     def _shutdown(self, _params: Json) -> None:
         self.is_shut_down = True
@@ -157,13 +174,7 @@ class Server:
 
     def _format(self, params: Json) -> list[Json]:
         """The lines that the layout changes, as one edit; none while a comment is not closed."""
-        data = self.workspace.files.read(path_of(params["textDocument"]["uri"]))
-        old = data.split(b"\n")
-        if rows(old)[-1].depth:
-            return []
-        options = params.get("options", {})
-        indent = b" " * min(max(int(options.get("tabSize", 4)), 1), 8) if options.get("insertSpaces") else b"\t"
-        new = laid_out(data, indent).split(b"\n")
+        old, new = self._layout(params)
         first = next((at for at, (one, other) in enumerate(zip(old, new)) if one != other), min(len(old), len(new)))
         if first == len(old) == len(new):
             return []
@@ -171,6 +182,30 @@ class Server:
         while same < min(len(old), len(new)) - first and old[-1 - same] == new[-1 - same]:
             same += 1
         return [_edit(old, new, first, same)]
+
+    def _layout(self, params: Json) -> tuple[list[bytes], list[bytes]]:
+        """The lines of a file, and those of its layout: the same while a comment is not closed."""
+        data = self.workspace.files.read(path_of(params["textDocument"]["uri"]))
+        old = data.split(b"\n")
+        if rows(old)[-1].depth:
+            return old, old
+        options = params.get("options", {})
+        indent = b" " * min(max(int(options.get("tabSize", 4)), 1), 8) if options.get("insertSpaces") else b"\t"
+        return old, laid_out(data, indent).split(b"\n")
+
+    def _format_range(self, params: Json) -> list[Json]:
+        return actions.edits_of_range(*self._layout(params), params["range"])
+
+    def _hints(self, params: Json) -> list[Json]:
+        if not self.has_hints:
+            return []
+        found, path = self.workspace.file(params)
+        where = params["range"]
+        return actions.inlay_hints(found, path, where["start"]["line"], where["end"]["line"] + 1)
+
+    def _actions(self, params: Json) -> list[Json]:
+        faults = [one for one in params["context"]["diagnostics"] if one.get("source") == "uxn"]
+        return actions.code_actions(self.workspace, *self.workspace.file(params), faults) if faults else []
 
     def _open(self, params: Json) -> None:
         given = params["textDocument"]
