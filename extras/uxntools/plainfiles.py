@@ -13,7 +13,11 @@ if TYPE_CHECKING:
     from collections.abc import Iterable, Iterator
 
 MEBIBYTE = 1 << 20
+# facts: words
 MOST_INPUT = 4_194_304
+MOST_ROM = 1_048_320
+MOST_SYMBOLS = 16_777_216
+# facts end
 # How many files and folders a root has at most, how many bytes they have together, and how deep they lie.
 MOST_FILES = 10_000
 MOST_BYTES = 64 * MEBIBYTE
@@ -44,8 +48,8 @@ SOURCE = Kind(MOST_INPUT, "LongSource", 131)
 SCRIPT = Kind(MOST_INPUT, "LongScript", 132)
 COMMANDS = Kind(MOST_INPUT, "LongCommands", 133)
 SETUP = Kind(MOST_INPUT, "LongSetup", 139)
-ROM = Kind(1_048_320, "rom", 134)
-SYMBOLS = Kind(16_777_216, "Long", 134)
+ROM = Kind(MOST_ROM, "rom", 134)
+SYMBOLS = Kind(MOST_SYMBOLS, "Long", 134)
 SETTINGS = Kind(MEBIBYTE)
 # An output of a run: pictures, samples, a text, a log, or a file of its root.
 OUTPUT = Kind(64 * MEBIBYTE)

@@ -42,6 +42,7 @@ MARKED: dict[str, dict[str, Callable[[Json], str]]] = {
         "kinds of symbol files": rendering.kinds("symbols"),
     },
     "conformance/conform/instructions.py": {"words": rendering.suite_words},
+    "extras/uxntools/plainfiles.py": {"words": rendering.limits_of_files},
     "cases/phases.py": {"words": rendering.phases_words},
     "extras/completions/uxn.bash": {"words": rendering.bash_words},
     "extras/completions/_uxn": {"words": rendering.zsh_words},

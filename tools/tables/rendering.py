@@ -123,6 +123,13 @@ def with_quote_inside(reserved: str) -> str:
     return reserved.replace('"', "").replace("%", '"%')
 
 
+def limits_of_files(facts: Json) -> str:
+    """The limits of files, for what is loaded first in each call of a tool."""
+    of = facts["limits"]
+    rows = (("MOST_INPUT", "TEXT_LIMIT"), ("MOST_ROM", "LARGEST_ROM"), ("MOST_SYMBOLS", "SYMBOLS_LIMIT"))
+    return "\n".join(f"{name} = {of[limit]:_}" for name, limit in rows)
+
+
 def phases_words(facts: Json) -> str:
     """What the assembler of the cases knows of words."""
     return "\n".join([

@@ -126,7 +126,7 @@ class Adapter:
         source = os.path.relpath(path, self.folder)
         if source.startswith("../"):
             self.folder, source = os.path.split(path)
-        options = {name: None if given.get(name) is None else str(given[name]) for name in OPTIONS}
+        options: Json = {name: None if given.get(name) is None else str(given[name]) for name in OPTIONS}
         is_rom = bool(given.get("rom", path.endswith(".rom")))
         self.stops_at_entry = bool(given.get("stopOnEntry", True))
         self.session = Session(Target(source, is_rom, folder=self.folder, **options), self._note)

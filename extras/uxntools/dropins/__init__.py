@@ -8,7 +8,7 @@ Makefiles call these programs often. So they load few modules, and `_signal` for
 else together; what a fault needs is loaded then."""
 from __future__ import annotations
 
-import _signal as signal
+import _signal as signal  # type: ignore[import]
 import os
 import resource
 import sys

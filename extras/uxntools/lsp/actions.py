@@ -103,15 +103,15 @@ def code_actions(workspace: Workspace, found: Analysis, path: str, faults: list[
     """For faults of `uxn`, what to write in place of their words. It is offered if the fault is then gone."""
     names = [text_of(label.name) for label in found.labels.values()]
     names += [f"%{text_of(macro.name)}" for macro in found.macros.values()]
-    given = []
+    given: list[Json] = []
     for fault in faults[:MOST_ACTIONS]:
         word = found.word_at(path, fault["range"]["start"]["line"] + 1, _column(found, path, fault))
         reason = sources.reason(str(fault.get("code")), text_of(word.text), names) if word else None
         written = MORE.split(reason.write)[0].strip() if reason else ""
         if word and written and _is_right(workspace, found, word, written):
-            edit = {"range": range_of(word, found.lines[path]), "newText": written}
+            edit: Json = {"range": range_of(word, found.lines[path]), "newText": written}
             uri = location(found, word)["uri"]
-            said = {"title": f"Write {written}", "kind": "quickfix", "diagnostics": [fault], "isPreferred": True}
+            said: Json = {"title": f"Write {written}", "kind": "quickfix", "diagnostics": [fault], "isPreferred": True}
             given.append({**said, "edit": {"changes": {uri: [edit]}}})
     return given
 
