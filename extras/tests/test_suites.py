@@ -167,6 +167,7 @@ class Choosing(Suite):
         self.assertIn("skipped tests/a: it needs a clock\nfailed as expected tests/b: a known bug\n", said)
         self.assertIn("2 passed, 0 failed, 1 skipped, 1 failed as expected", said)
         self.assertEqual(ElementTree.fromstring(self.read("j.xml")).get("skipped"), "2")
+        self.assertEqual(self.outcome(0, "--last-failed", "-l"), "")
         tap = self.outcome(0, "--tap")
         self.assertIn("ok 1 - tests/a # SKIP it needs a clock\nnot ok 2 - tests/b # TODO a known bug\n", tap)
         self.write("tests/b.out", "b")

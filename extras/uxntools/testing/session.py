@@ -158,6 +158,7 @@ class Session:
             return outcome
         if outcome.has_passed:
             return self._failed(test, outcome.result, [Fault("test", f"it passes, and is expected to fail: {why}")])
+        showing.forget(test)
         return Outcome(test, outcome.result, is_expected=True)
 
     def _compared(self, test: Test, old: Result | None) -> Outcome:
