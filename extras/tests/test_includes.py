@@ -81,7 +81,8 @@ class IncludeRoot(ToolTest):
         self.write("lib/print.tal", PRINT.replace("#18 DEO", "INC #18 DEO"))
         self.assertIn("0 passed, 2 failed", self.said(1, "uxn-test"))
         self.write("lib/print.tal", FAULTY)
-        self.assertIn("source lib/print.tal 2:10: UnknownName: foo\n", self.said(1, "uxn-test"))
+        refused = "src/hello.tal is refused (source lib/print.tal 2:10: UnknownName: foo): 1 test not run\n"
+        self.assertIn(refused, self.said(1, "uxn-test"))
         self.assertEqual(sorted(os.listdir(self.path("src"))), ["bye.tal", "hello.tal"])
 
     def test_a_part_of_programs_is_not_run(self) -> None:
