@@ -14,7 +14,7 @@ import unittest.mock
 from support import EXAMPLES, EXTRAS, ToolTest, needs
 
 sys.path.insert(0, EXTRAS)
-from uxntools import files, sandbox
+from uxntools import plainfiles, sandbox
 from uxntools.cli import Failure
 
 # Reads the file that the argument names, and writes it to the console.
@@ -177,7 +177,7 @@ class WaysOut(SandboxTest):
 
     def test_11_it_wants_memory(self) -> None:
         self.write("a.tal", "BRK")
-        self.write("commands", "where\n")
+        self.write("commands", "back 1\n")
         words = ("debug", "a.tal", "--commands", "commands", "--log", "log")
         self.assertEqual(self.sandbox(*words).returncode, 0)
         done = self.call("uxn-sandbox", "--isolation", "none", "--memory", "32", *words)
@@ -235,13 +235,12 @@ class Amounts(SandboxTest):
         self.assertEqual(said, "uxn-sandbox: root root/\\x1b[2J\\n: it is a symbolic link\n")
 
     def test_a_mount_is_found_by_the_mount_table(self) -> None:
-        self.addCleanup(files._mount_points.cache_clear)
         there = os.path.join(os.path.realpath(self.path("root")), "in ner")
-        with unittest.mock.patch.object(files, "_mount_points", lambda: frozenset({"/proc", there})):
+        with unittest.mock.patch.object(plainfiles, "_mount_points", lambda: frozenset({"/proc", there})):
             with self.assertRaises(sandbox.Refused) as caught:
                 self.look_at_root()
         self.assertIn("in ner: it is another file system", caught.exception.line)
-        self.assertIn("/proc", files._mount_points())
+        self.assertIn("/proc", plainfiles._mount_points())
 
     def look_at_root(self) -> None:
         before = os.getcwd()
@@ -452,6 +451,6 @@ class Reading(unittest.TestCase):
             )
             self.assertEqual(([*call.inputs], call.outputs, call.root), (["c", "r.rom", "y"], ["l", "p"], "a/b"))
             call = sandbox.read_call(["asm", "a.tal", "--symbols", "y", "--out", "../o"])
-            self.assertEqual((call.inputs, call.outputs, call.root), (["a.tal"], ["y"], None))
+            self.assertEqual((call.inputs, call.outputs, call.root), ({"a.tal": "a.tal"}, ["y"], None))
             with self.assertRaises(Failure):
                 sandbox.look_at_root("gone")

@@ -53,7 +53,7 @@ class Checkout(unittest.TestCase):
         """Puts the sources of the page there, with one example."""
         shutil.copytree(TOP / "web", self.top / "web", ignore=shutil.ignore_patterns("__pycache__", "tests"))
         write(self.top / "examples/README.md", "| `one.tal` | one example |\n")
-        for name in ("one.tal", "numbered.setup", "words.tal", "squeeze.tal", "number.tal", "numbered.script"):
+        for name in ("one.tal", "numbered.setup", "words.tal", "squeeze.tal", "number.tal", "numbered.script", "numbered.out"):
             write(self.top / "examples" / name, f"( {name} )\n")
 
     def fill_dist(self, program: Path = PROGRAM) -> None:

@@ -58,6 +58,12 @@ def run(name: str, text: str, usage: str, main: Callable[[list[str]], int]) -> N
         status = NOBODY_READS
     except OSError as error:
         status = say(f"{name}: {signs.shown(signs.line_of(error))}", FAULT)
+    for stream in (sys.stdout, sys.stderr):
+        try:
+            stream.flush()
+        except (OSError, ValueError):
+            plainfiles.silence(stream.fileno())
+            status = status or FAULT
     sys.exit(status)
 
 
